@@ -1,2 +1,3 @@
+mod Printed
 pub mod Readings
 mod Translations

@@ -1,3 +1,11 @@
 mod CallNames
-mod WrittenTexts
 mod Loops
+mod Places
+mod Strings
+mod Heads
+mod ConstantValues
+mod Checks
+mod ClauseChecks
+mod ExprWritten
+mod NumberedAtoms
+mod WrittenTexts

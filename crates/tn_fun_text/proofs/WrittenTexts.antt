@@ -18,7 +18,7 @@ use Rattle.def_fun.specs.Trees.{FunExpr, FunExprs}
 use Rattle.def_fun.specs.Calls.{may_call}
 use Rattle.def_fun.specs.Translation.{begins_with_dollar, is_variable_atom}
 use Rattle.def_fun.specs.FunTexts.{OrReason, NoFunReason, wrong_order, no_head_atom, no_dollar_atom, no_other_const, NoFun, then_print, then_clause, reason_at, ClausePart, the_head, the_condition, the_expression, numbered_variable, integer_expr, is_text, character_code, string_character, string_expr, PrintedPattern, pattern_variable, pattern_atom, pattern_of_term, patterns_of_terms, head_of_term, expr_level, in_level, first_changed, tuple_changed, with_string, with_string_in, infix_operators, prefix_operators, operator_named, PrintedCall, prints_between, prints_before, prints_call, prints_nothing, or_call, between_or, before_or, printed_call, has_list, have_list, operator_expr, operands_kept, atom_printed, const_printed, unless_computed, call_printed, expr_of_term, exprs_of_terms, joined_with, string_text, prefix_text, expr_text, expr_texts, parts_printed, when_text, body_printed, clause_of_parts_printed, clause_printed, clauses_printed, CLAUSE_BREAK, fun_text, fun_printed, would_compute, computation_of, values_in_fun}
-use Rattle.tn_fun_text.specs.Texts.{variable_text, only_if, with_ends, each_character, characters_text, pattern_atom_text, pattern_text, patterns_text, head_text, plain_atom_text, expr_atom_text, const_text, list_text, between_text, before_text, called_text, call_text, computes_with, text_of, first_text, second_text, items_text, conditions_text, parts_text, clause_text, clauses_text, whole_text}
+use Rattle.tn_fun_text.specs.Texts.{variable_text, only_if, with_ends, each_character, fun_string_text, pattern_atom_text, pattern_text, patterns_text, head_text, plain_atom_text, expr_atom_text, const_text, list_text, between_text, before_text, called_text, fun_call_text, computes_with, fun_expr_text, first_text, second_text, items_text, conditions_text, parts_text, fun_clause_text, clauses_text, whole_text}
 
 -- ---- what a result is
 
@@ -206,7 +206,7 @@ characters_are : (ts : Trees) → flat_map string_character (map character_code 
 characters_are term.none = refl
 characters_are (term.more t ts) = ap (λ u. string_character (character_code t) ++ u) (characters_are ts)
 
-string_said : (ts : Trees) → expr_text (string_expr ts) ≡ characters_text ts
+string_said : (ts : Trees) → expr_text (string_expr ts) ≡ fun_string_text ts
 string_said ts = ap (λ u. 34 ∷ (u ++ 34 ∷ [])) (characters_are ts)
 
 -- ---- atoms
@@ -365,7 +365,7 @@ module _ (d : Dialect) (part : Position) where
   list_printed_said : (b : Bool) (n : ℕ) (k : Bool) → Fits n → (ts : Trees) (e : FunExpr)
       → ((es : FunExprs) → exprs_of_terms d part ts ≡ Ok es → joined_from [] (codes ", ") (expr_texts es) ≡ items_text d part [] false ts)
       → (if b then Ok (string_expr ts) else then_print (exprs_of_terms d part ts) (λ es. Ok (tree.list 0 es))) ≡ Ok e
-      → expr_text (in_level n (kept k e)) ≡ (if b then characters_text ts else list_text k ts (items_text d part [] false ts))
+      → expr_text (in_level n (kept k e)) ≡ (if b then fun_string_text ts else list_text k ts (items_text d part [] false ts))
   list_printed_said true n k f ts e each h =
       ap (λ x. expr_text (in_level n (kept k x))) (sym (ok_same _ e h)) ∙ leaf_said n k f (string_expr ts) refl refl ∙ string_said ts
   list_printed_said false n k f ts e each h =
@@ -397,7 +397,7 @@ module _ (d : Dialect) (part : Position) where
   or_call_said : (n : ℕ) (k : Bool) → Fits n → (b : Bool) (s : Name) (t : Tree) (ts : Trees) (a : Bool) (e : FunExpr) (first second : ℕ → List ℕ) (each : List ℕ)
       → ((es : FunExprs) → exprs_of_terms d part ts ≡ Ok es → joined_from [] (codes ", ") (expr_texts es) ≡ each)
       → call_printed (if b then prints_call else prints_nothing) s t ts a (exprs_of_terms d part ts) ≡ Ok e
-      → expr_text (in_level n (kept k e)) ≡ call_text (if b then prints_call else prints_nothing) n s first second each
+      → expr_text (in_level n (kept k e)) ≡ fun_call_text (if b then prints_call else prints_nothing) n s first second each
   or_call_said n k f false s t ts a e first second each is h = absurd (cc)
   or_call_said n k f true s t ts a e first second each is h =
       let g = then_ok (exprs_of_terms d part ts) (λ fs. Ok (tree.call 0 s fs)) e h in
@@ -407,14 +407,14 @@ module _ (d : Dialect) (part : Position) where
 
   -- what of an expression is said of its term
   abbrev SaidOf : Tree → Type 0
-  SaidOf t = (n : ℕ) (k : Bool) → Fits n → (e : FunExpr) → expr_of_term d part t ≡ Ok e → expr_text (in_level n (kept k e)) ≡ text_of d part n k t
+  SaidOf t = (n : ℕ) (k : Bool) → Fits n → (e : FunExpr) → expr_of_term d part t ≡ Ok e → expr_text (in_level n (kept k e)) ≡ fun_expr_text d part n k t
 
   -- of a call with one argument
   one_said : (n : ℕ) (k : Bool) → Fits n → (o : Option FunOperator) (b : Bool) (s : Name) (t x : Tree) (a : Bool) (e : FunExpr) (second : ℕ → List ℕ) (each : List ℕ)
       → ((p : FunOperator) → o ≡ Some p → prefix_text p ≡ operator_name p ++ codes " ") → SaidOf x
       → ((es : FunExprs) → exprs_of_terms d part (term.more x term.none) ≡ Ok es → joined_from [] (codes ", ") (expr_texts es) ≡ each)
       → call_printed (before_or o (if b then prints_call else prints_nothing)) s t (term.more x term.none) a (exprs_of_terms d part (term.more x term.none)) ≡ Ok e
-      → expr_text (in_level n (kept k e)) ≡ call_text (before_or o (if b then prints_call else prints_nothing)) n s (λ m. first_text d part m a (term.more x term.none)) second each
+      → expr_text (in_level n (kept k e)) ≡ fun_call_text (before_or o (if b then prints_call else prints_nothing)) n s (λ m. first_text d part m a (term.more x term.none)) second each
   one_said n k f None b s t x a e second each names said is h = or_call_said n k f b s t (term.more x term.none) a e (λ m. first_text d part m a (term.more x term.none)) second each is h
   one_said n k f (Some o) b s t x a e second each names said is h =
       let g = then_ok (exprs_of_terms d part (term.more x term.none)) (λ fs. Ok (operator_expr o (operands_kept a fs))) e (unless_ok t a (have_list (term.more x term.none)) _ e h) in
@@ -430,7 +430,7 @@ module _ (d : Dialect) (part : Position) where
       → SaidOf x → SaidOf y
       → ((es : FunExprs) → exprs_of_terms d part (term.more x (term.more y term.none)) ≡ Ok es → joined_from [] (codes ", ") (expr_texts es) ≡ each)
       → call_printed (between_or o (if b then prints_call else prints_nothing)) s t (term.more x (term.more y term.none)) a (exprs_of_terms d part (term.more x (term.more y term.none))) ≡ Ok e
-      → expr_text (in_level n (kept k e)) ≡ call_text (between_or o (if b then prints_call else prints_nothing)) n s (λ m. first_text d part m a (term.more x (term.more y term.none))) (λ m. second_text d part m a (term.more x (term.more y term.none))) each
+      → expr_text (in_level n (kept k e)) ≡ fun_call_text (between_or o (if b then prints_call else prints_nothing)) n s (λ m. first_text d part m a (term.more x (term.more y term.none))) (λ m. second_text d part m a (term.more x (term.more y term.none))) each
   two_said n k f None b s t x y a e each said more_said is h =
       or_call_said n k f b s t (term.more x (term.more y term.none)) a e (λ m. first_text d part m a (term.more x (term.more y term.none))) (λ m. second_text d part m a (term.more x (term.more y term.none))) each is h
   two_said n k f (Some o) b s t x y a e each said more_said is h =
@@ -473,7 +473,7 @@ module _ (d : Dialect) (part : Position) where
 
   call_said : (n : ℕ) (k : Bool) → Fits n → (s : Name) (t : Tree) (ts : Trees) (a : Bool) (e : FunExpr) → AllSaid ts → ItemsSaid ts
       → call_printed (printed_call d part s (count ts)) s t ts a (exprs_of_terms d part ts) ≡ Ok e
-      → expr_text (in_level n (kept k e)) ≡ call_text (printed_call d part s (count ts)) n s (λ m. first_text d part m a ts) (λ m. second_text d part m a ts) (items_text d part [] false ts)
+      → expr_text (in_level n (kept k e)) ≡ fun_call_text (printed_call d part s (count ts)) n s (λ m. first_text d part m a ts) (λ m. second_text d part m a ts) (items_text d part [] false ts)
   call_said n k f s t term.none a e all items h = or_call_said n k f (may_call d part s 0) s t term.none a e _ _ _ items h
   call_said n k f s t (term.more x term.none) a e all items h =
       one_said n k f (operator_named prefix_operators s) (may_call d part s 1) s t x a e _ _ (prefix_named (bytes_eq (operator_name op.bit_not) s) (bytes_eq (operator_name op.negation) s)) all.0 items h
@@ -484,7 +484,7 @@ module _ (d : Dialect) (part : Position) where
       let c : printed_call d part s (count ts) ≡ or_call d part s (count ts) = other_call s (count ts) (not_two (count zs)) (not_one (count zs)) in
       or_call_said n k f (may_call d part s (count ts)) s t ts a e (λ m. first_text d part m a ts) (λ m. second_text d part m a ts) (items_text d part [] false ts) items
       (subst (λ p. call_printed p s t ts a (exprs_of_terms d part ts) ≡ Ok e) c h)
-      ∙ ap (λ p. call_text p n s (λ m. first_text d part m a ts) (λ m. second_text d part m a ts) (items_text d part [] false ts)) (sym c)
+      ∙ ap (λ p. fun_call_text p n s (λ m. first_text d part m a ts) (λ m. second_text d part m a ts) (items_text d part [] false ts)) (sym c)
 
   mutual
     pub said : (t : Tree) → SaidOf t
@@ -542,7 +542,7 @@ int_pattern_said (negsuc m) = refl
 list_pattern_said : (b : Bool) (g : ℕ) (ts : Trees) (r : OrReason (FunExprs × ℕ)) (p : PrintedPattern)
     → ((q : FunExprs × ℕ) → r ≡ Ok q → joined_from [] (codes ", ") (expr_texts q.0) ≡ patterns_text [] ts)
     → (if b then Ok (string_expr ts, g) else then_print r (λ q. Ok (tree.list 0 q.0, q.1))) ≡ Ok p
-    → expr_text p.0 ≡ (if b then characters_text ts else with_ends (codes "[") (patterns_text [] ts) (codes "]"))
+    → expr_text p.0 ≡ (if b then fun_string_text ts else with_ends (codes "[") (patterns_text [] ts) (codes "]"))
 list_pattern_said true g ts r p is h = ap (λ q. expr_text q.0) (sym (ok_same _ p h)) ∙ string_said ts
 list_pattern_said false g ts r p is h =
     let i = then_ok r (λ q. Ok (tree.list 0 q.0, q.1)) p h in
@@ -605,7 +605,7 @@ parts_text_said d n h cs bs u is =
     ∙ ap₂ (λ x y. codes "(" ++ x ++ codes ")" ++ y ++ codes " -> " ++ joined_with (codes ", ") l.0) (head_said h i.0 (reason_at_ok n the_head (head_of_term h) i.0 i.1)) (when_said d n 1 cs j.0 j.1)
     ∙ ap (λ y. codes "(" ++ head_text h ++ codes ")" ++ conditions_text d cs ++ codes " -> " ++ y) (body_said d n bs l.0 l.1)
 
-clause_said : (d : Dialect) (n : ℕ) (t : Tree) (u : List ℕ) → clause_printed d n t ≡ Ok u → u ≡ clause_text d t
+clause_said : (d : Dialect) (n : ℕ) (t : Tree) (u : List ℕ) → clause_printed d n t ≡ Ok u → u ≡ fun_clause_text d t
 clause_said d n (term.int z) u h = absurd (cc)
 clause_said d n (term.atom s) u h = absurd (cc)
 clause_said d n (term.pid p) u h = absurd (cc)

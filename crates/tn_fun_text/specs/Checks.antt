@@ -1,9 +1,9 @@
 -- What the code's checks of expressions are held against.
-use Rattle.std.specs.Prelude.{ℕ, Bool, true, false, not, ◌&&◌, ◌||◌, if◌then◌else◌, Option, Some, None, codes}
+use Rattle.std.specs.Prelude.{Bool, true, false, ◌||◌, if◌then◌else◌, Option, Some, None, codes}
 use Rattle.std.specs.Str.{bytes_eq}
 use Rattle.std.specs.Option.{option_or}
 use Rattle.std.specs.declared.vec.Vec.{Vec}
-use Rattle.def_term.specs.Tree.{Tree, atom, tuple, Trees, none, more, count}
+use Rattle.def_term.specs.Tree.{Tree, atom, Trees, none, more, count}
 use Rattle.def_term.specs.Names.{Name}
 use Rattle.def_spec.specs.Reading.{is_wildcard}
 use Rattle.def_fun.specs.Translation.{begins_with_dollar}
@@ -13,6 +13,7 @@ use Rattle.tn_term.specs.declared.term.Term.{Term}
 use Rattle.tn_spec.specs.Names.{position_seen}
 use Rattle.tn_spec.specs.Views.{dialect_of}
 use Rattle.tn_fun_text.specs.declared.scope.Scope.{Scope}
+use Rattle.tn_fun_text.specs.Reasons.{no_fun_reason}
 use Rattle.tn_fun_text.specs.Terms.{terms_from}
 use Rattle.tn_fun_text.specs.Values.{computation_at}
 
@@ -38,10 +39,6 @@ expr_at w t = expr_of_term (dialect_of w.dialect) (position_seen w.part) t
 abbrev pub exprs_at : {A : Type 0} → Scope A → Trees → OrReason FunExprs
 exprs_at w ts = exprs_of_terms (dialect_of w.dialect) (position_seen w.part) ts
 
--- that of a tuple of the name and the terms after the first
-abbrev pub named_expr_at : {A : Type 0} → Scope A → Name → Tree → Vec (Term A) A → OrReason FunExpr
-named_expr_at w s t v = expr_at w (tuple (more (atom s) (terms_from 1 v)))
-
 -- why an operator is none of a fun, whatever its operands are
 abbrev pub computed_reason : Tree → Bool → Bool → Option NoFunReason
 computed_reason t true false = Some (is_computed t)
@@ -52,13 +49,19 @@ abbrev pub computed_reason_at : {A : Type 0} → Scope A → Name → Tree → V
 computed_reason_at w s t v = computed_reason t (would_compute (computation_at w s v)) (have_list (terms_from 1 v))
 
 -- why a call or operator is none, whatever its arguments are
-abbrev pub call_reason : PrintedCall → Name → Tree → Trees → Bool → Option NoFunReason
-call_reason (prints_between o) s t ts computes = computed_reason t computes (have_list ts)
-call_reason (prints_before o) s t ts computes = computed_reason t computes (have_list ts)
-call_reason prints_call s t ts computes = None
-call_reason prints_nothing s t ts computes = Some (no_such_call s (count ts))
+abbrev pub fun_call_reason : PrintedCall → Name → Tree → Trees → Bool → Option NoFunReason
+fun_call_reason (prints_between o) s t ts computes = computed_reason t computes (have_list ts)
+fun_call_reason (prints_before o) s t ts computes = computed_reason t computes (have_list ts)
+fun_call_reason prints_call s t ts computes = None
+fun_call_reason prints_nothing s t ts computes = Some (no_such_call s (count ts))
 
 -- the same of the terms after the first
 abbrev pub call_reason_at : {A : Type 0} → Scope A → Name → Tree → Vec (Term A) A → Option NoFunReason
 call_reason_at w s t v =
-    call_reason (printed_call (dialect_of w.dialect) (position_seen w.part) s (count (terms_from 1 v))) s t (terms_from 1 v) (would_compute (computation_at w s v))
+    fun_call_reason (printed_call (dialect_of w.dialect) (position_seen w.part) s (count (terms_from 1 v))) s t (terms_from 1 v) (would_compute (computation_at w s v))
+
+-- why the tree of a name and the terms after the first is none
+abbrev pub named_reason_at : {A : Type 0} → Scope A → Name → Tree → Vec (Term A) A → Option NoFunReason
+named_reason_at w s t v =
+    if bytes_eq s (codes "const") then no_fun_reason (const_printed t (terms_from 1 v))
+    else option_or (call_reason_at w s t v) (no_fun_reason (exprs_at w (terms_from 1 v)))

@@ -7,7 +7,7 @@ use Rattle.tn_term.specs.declared.term.Term.{Term}
 use Rattle.tn_term.specs.Views.{tree_of, trees_of}
 use Rattle.tn_spec.specs.declared.func.Dialect.{Dialect}
 use Rattle.tn_spec.specs.Views.{dialect_of}
-use Rattle.tn_fun_text.specs.Texts.{items_text, parts_text, clause_text}
+use Rattle.tn_fun_text.specs.Texts.{items_text, parts_text, fun_clause_text}
 
 -- of a body
 abbrev pub body_text_at : {A : Type 0} → Dialect → Vec (Term A) A → List ℕ
@@ -19,4 +19,4 @@ three_text_at d h cs bs = parts_text (dialect_of d) (tree_of h) (trees_of cs.ite
 
 -- of a clause of these elements
 abbrev pub fields_text_at : {A : Type 0} → Dialect → Vec (Term A) A → List ℕ
-fields_text_at d v = clause_text (dialect_of d) (tuple (trees_of v.items))
+fields_text_at d v = fun_clause_text (dialect_of d) (tuple (trees_of v.items))

@@ -40,12 +40,12 @@ fault_in_part n p r = faults.NoFun (record { clause = n; part = p; reason = r })
 
 -- the condition or expression of this number
 abbrev pub numbered_part : ex.Position → ℕ → texts.ClausePart
-numbered_part in_condition k = the_condition k
-numbered_part in_body k = the_expression k
+numbered_part in_condition = the_condition
+numbered_part in_body = the_expression
 
 -- the condition or expression of this number, of the clause of that
-abbrev pub part_at : {A : Type 0} → Scope A → ℕ → ℕ → Tree → Result FunExpr texts.NoFun
-part_at w n k t = reason_at n (numbered_part (position_seen w.part) k) (expr_of_term (dialect_of w.dialect) (position_seen w.part) t)
+abbrev pub clause_part_at : {A : Type 0} → Scope A → ℕ → ℕ → Tree → Result FunExpr texts.NoFun
+clause_part_at w n k t = reason_at n (numbered_part (position_seen w.part) k) (expr_of_term (dialect_of w.dialect) (position_seen w.part) t)
 
 -- several, numbered from there on
 abbrev pub parts_at : {A : Type 0} → Scope A → ℕ → ℕ → Trees → Result (List (List ℕ)) texts.NoFun

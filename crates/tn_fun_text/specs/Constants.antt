@@ -6,12 +6,12 @@ use Rattle.def_fun.specs.Constants.{not_computed, gives, gives_too_large, gives_
 use Rattle.tn_fun_text.specs.declared.integers.Computation.{Computation}
 use Rattle.tn_fun_text.specs.declared.integers.Computation.TheVariants as outcomes
 
-abbrev pub computation_seen : Computation → constants.Computation
-computation_seen outcomes.Nothing = not_computed
-computation_seen (outcomes.Integer z) = gives (int z)
-computation_seen (outcomes.Truth b) = gives_truth b
-computation_seen outcomes.TooLarge = gives_too_large
+abbrev pub fun_computation_seen : Computation → constants.Computation
+fun_computation_seen outcomes.Nothing = not_computed
+fun_computation_seen (outcomes.Integer z) = gives (int z)
+fun_computation_seen (outcomes.Truth b) = gives_truth b
+fun_computation_seen outcomes.TooLarge = gives_too_large
 
 -- it is the integer, or that is too large
-abbrev pub CountsAs : Computation → ℤ → Type 0
-CountsAs r z = computation_seen r ≡ gives_integer z
+abbrev pub AgreesWithInteger : Computation → ℤ → Type 0
+AgreesWithInteger r z = fun_computation_seen r ≡ gives_integer z

@@ -9,11 +9,11 @@ use Rattle.tn_spec.specs.Names.{position_seen}
 use Rattle.tn_spec.specs.Views.{dialect_of}
 use Rattle.tn_fun_text.specs.declared.scope.Scope.{Scope}
 use Rattle.tn_fun_text.specs.Terms.{terms_from}
-use Rattle.tn_fun_text.specs.Texts.{between_text, before_text, called_text, text_of, first_text, second_text, items_text}
+use Rattle.tn_fun_text.specs.Texts.{between_text, before_text, called_text, fun_expr_text, first_text, second_text, items_text}
 
 -- of a term
 abbrev pub text_at : {A : Type 0} → Scope A → ℕ → Bool → Tree → List ℕ
-text_at w n k t = text_of (dialect_of w.dialect) (position_seen w.part) n k t
+text_at w n k t = fun_expr_text (dialect_of w.dialect) (position_seen w.part) n k t
 
 -- of a list
 abbrev pub list_at : {A : Type 0} → Scope A → Bool → Trees → List ℕ

@@ -28,8 +28,8 @@ each_character none = []
 each_character (more t ts) = string_character (character_code t) ++ each_character ts
 
 -- a list of characters
-abbrev pub characters_text : Trees → List ℕ
-characters_text ts = with_ends (codes "\"") (each_character ts) (codes "\"")
+abbrev pub fun_string_text : Trees → List ℕ
+fun_string_text ts = with_ends (codes "\"") (each_character ts) (codes "\"")
 
 -- ---- heads
 
@@ -45,7 +45,7 @@ abbrev mutual
   pattern_text (atom s) = pattern_atom_text s (atom_kind s)
   pattern_text (pid n) = []
   pattern_text (tuple ts) = with_ends (codes "{") (patterns_text [] ts) (codes "}")
-  pattern_text (list ts) = if is_text ts then characters_text ts else with_ends (codes "[") (patterns_text [] ts) (codes "]")
+  pattern_text (list ts) = if is_text ts then fun_string_text ts else with_ends (codes "[") (patterns_text [] ts) (codes "]")
 
   -- of several, each after these bytes, and after the first with a comma and a blank before each
   pub patterns_text : List ℕ → Trees → List ℕ
@@ -96,11 +96,11 @@ abbrev pub called_text : Name → List ℕ → List ℕ
 called_text s u = atom_text s ++ with_ends (codes "(") u (codes ")")
 
 -- an operator or a call, of the texts of its operands at each level and of all arguments
-abbrev pub call_text : PrintedCall → ℕ → Name → (ℕ → List ℕ) → (ℕ → List ℕ) → List ℕ → List ℕ
-call_text (prints_between o) n s first second each = between_text n o (first (left_level (operator_binding o))) (second (right_level (operator_binding o)))
-call_text (prints_before o) n s first second each = before_text o (first PREFIX_LEVEL)
-call_text prints_call n s first second each = called_text s each
-call_text prints_nothing n s first second each = []
+abbrev pub fun_call_text : PrintedCall → ℕ → Name → (ℕ → List ℕ) → (ℕ → List ℕ) → List ℕ → List ℕ
+fun_call_text (prints_between o) n s first second each = between_text n o (first (left_level (operator_binding o))) (second (right_level (operator_binding o)))
+fun_call_text (prints_before o) n s first second each = before_text o (first PREFIX_LEVEL)
+fun_call_text prints_call n s first second each = called_text s each
+fun_call_text prints_nothing n s first second each = []
 
 module _ (d : Dialect) (part : Position) where
   -- a call of the name with these arguments is an operator that would be computed
@@ -109,21 +109,21 @@ module _ (d : Dialect) (part : Position) where
 
   abbrev mutual
     -- the text of an expression that binds so strongly at least; whether the first list in it keeps an operator from being computed
-    pub text_of : ℕ → Bool → Tree → List ℕ
-    text_of n k (int z) = signed_decimal z
-    text_of n k (atom s) = expr_atom_text s (atom_kind s)
-    text_of n k (pid p) = []
-    text_of n k (list ts) = if is_text ts then characters_text ts else list_text k ts (items_text [] false ts)
-    text_of n k (tuple (more (tuple ts) none)) = with_ends (codes "{") (items_text [] k ts) (codes "}")
-    text_of n k (tuple (more (atom s) ts)) =
+    pub fun_expr_text : ℕ → Bool → Tree → List ℕ
+    fun_expr_text n k (int z) = signed_decimal z
+    fun_expr_text n k (atom s) = expr_atom_text s (atom_kind s)
+    fun_expr_text n k (pid p) = []
+    fun_expr_text n k (list ts) = if is_text ts then fun_string_text ts else list_text k ts (items_text [] false ts)
+    fun_expr_text n k (tuple (more (tuple ts) none)) = with_ends (codes "{") (items_text [] k ts) (codes "}")
+    fun_expr_text n k (tuple (more (atom s) ts)) =
         if bytes_eq s (codes "const") then const_text ts
-        else call_text (printed_call d part s (count ts)) n s (λ m. first_text m (computes_with s ts) ts) (λ m. second_text m (computes_with s ts) ts) (items_text [] false ts)
-    text_of n k (tuple ts) = []
+        else fun_call_text (printed_call d part s (count ts)) n s (λ m. first_text m (computes_with s ts) ts) (λ m. second_text m (computes_with s ts) ts) (items_text [] false ts)
+    fun_expr_text n k (tuple ts) = []
 
     -- of the first of several
     pub first_text : ℕ → Bool → Trees → List ℕ
     first_text n k none = []
-    first_text n k (more t ts) = text_of n (k && has_list t) t
+    first_text n k (more t ts) = fun_expr_text n (k && has_list t) t
 
     -- of the second, where the first has no list
     pub second_text : ℕ → Bool → Trees → List ℕ
@@ -133,7 +133,7 @@ module _ (d : Dialect) (part : Position) where
     -- of several, each after these bytes, and after the first with a comma and a blank before each
     pub items_text : List ℕ → Bool → Trees → List ℕ
     items_text s k none = []
-    items_text s k (more t ts) = s ++ text_of 0 (k && has_list t) t ++ items_text (codes ", ") (k && not (has_list t)) ts
+    items_text s k (more t ts) = s ++ fun_expr_text 0 (k && has_list t) t ++ items_text (codes ", ") (k && not (has_list t)) ts
 
 -- ---- clauses
 
@@ -147,14 +147,14 @@ abbrev pub parts_text : Dialect → Tree → Trees → Trees → List ℕ
 parts_text d h cs bs = codes "(" ++ head_text h ++ codes ")" ++ conditions_text d cs ++ codes " -> " ++ items_text d in_body [] false bs
 
 -- a clause
-abbrev pub clause_text : Dialect → Tree → List ℕ
-clause_text d (tuple (more h (more (list cs) (more (list bs) none)))) = parts_text d h cs bs
-clause_text d t = []
+abbrev pub fun_clause_text : Dialect → Tree → List ℕ
+fun_clause_text d (tuple (more h (more (list cs) (more (list bs) none)))) = parts_text d h cs bs
+fun_clause_text d t = []
 
 -- clauses, each after these bytes, and after the first with the break before each
 abbrev pub clauses_text : Dialect → List ℕ → Trees → List ℕ
 clauses_text d s none = []
-clauses_text d s (more t ts) = s ++ clause_text d t ++ clauses_text d CLAUSE_BREAK ts
+clauses_text d s (more t ts) = s ++ fun_clause_text d t ++ clauses_text d CLAUSE_BREAK ts
 
 -- the fun
 abbrev pub whole_text : Dialect → Tree → List ℕ

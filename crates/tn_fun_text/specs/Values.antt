@@ -16,12 +16,12 @@ use Rattle.tn_fun_text.specs.declared.scope.Scope.{Scope}
 use Rattle.tn_fun_text.specs.Terms.{terms_from}
 
 -- a value, where there is one
-abbrev pub value_seen : {A : Type 0} → Option (Term A) → Option Tree
-value_seen v = option_map tree_of v
+abbrev pub constant_seen : {A : Type 0} → Option (Term A) → Option Tree
+constant_seen v = option_map tree_of v
 
 -- several
-abbrev pub values_seen : {A : Type 0} → Option (Vec (Term A) A) → Option (List Tree)
-values_seen v = option_map (λ u. map tree_of u.items) v
+abbrev pub constants_seen : {A : Type 0} → Option (Vec (Term A) A) → Option (List Tree)
+constants_seen v = option_map (λ u. map tree_of u.items) v
 
 -- of an atom
 abbrev pub atom_value : Name → Option Tree

@@ -5,7 +5,8 @@ ghost use Rattle.def_spec.specs.Reading.{atom_kind};
 ghost use Rattle.def_fun.specs.FunTexts.{atom_printed, const_printed};
 ghost use Rattle.tn_term.specs.Views.{tree_of, trees_of};
 ghost use Rattle.tn_fun_text.specs.Reasons.{IsChecked, SaysReason};
-ghost use Rattle.tn_fun_text.specs.Checks.{expr_at, exprs_at, named_expr_at, call_reason_at, is_special_name, computed_reason_at};
+ghost use Rattle.tn_fun_text.specs.Checks.{expr_at, exprs_at, named_reason_at, call_reason_at, is_special_name};
+ghost use Rattle.tn_fun_text.specs.Checks.{computed_reason_at};
 ghost use Rattle.tn_fun_text.specs.Checks.{is_dollar_atom_tree, is_dollar_const};
 ghost use Rattle.tn_fun_text.specs.Terms.{terms_from};
 
@@ -170,9 +171,15 @@ fn check_tuple<'a, A: Allocator + Copy>(
         return Err(CheckFault::Reason(Reason::NoCall("", 0)));
     }
     match &terms[0] {
-        Term::Tuple(inner) if terms.len() == 1 => check_from(scope, inner, 0),
+        Term::Tuple(inner) => {
+            if terms.len() == 1 {
+                check_from(scope, inner, 0)
+            } else {
+                Err(CheckFault::Reason(Reason::NoCall("", terms.len())))
+            }
+        }
         Term::Atom(name) => check_named(scope, term, terms, name),
-        _ => Err(CheckFault::Reason(Reason::NoCall("", terms.len()))),
+        Term::Int(_) | Term::Pid(_) | Term::List(_) => Err(CheckFault::Reason(Reason::NoCall("", terms.len()))),
     }
 }
 
@@ -184,9 +191,8 @@ fn check_named<'a, A: Allocator + Copy>(
     terms: &'a Vec<Term<A>, A>,
     name: &'a Atom<A>,
 ) -> Result<(), CheckFault<'a, A>>
-    requires some { 0 < length terms.now.items }
-    requires same { tree_of term.now ≡ tuple (trees_of terms.now.items) }
-    ensures { IsChecked (named_expr_at scope name.now (tree_of term.now) terms.now) result }
+    requires { 0 < length terms.now.items }
+    ensures { SaysReason (named_reason_at scope name.now (tree_of term.now) terms.now) result }
 {
     if name.text() == "const" {
         return check_const(term, terms);

@@ -5,11 +5,12 @@ ghost use Rattle.def_fun.specs.FunTexts.{body_printed};
 ghost use Rattle.tn_term.specs.Views.{tree_of, trees_of};
 ghost use Rattle.tn_spec.specs.Names.{position_seen};
 ghost use Rattle.tn_spec.specs.Views.{dialect_of};
-ghost use Rattle.tn_fun_text.specs.Clauses.{IsClauseChecked, part_at, parts_at, three_at, fields_at};
+ghost use Rattle.tn_fun_text.specs.Clauses.{IsClauseChecked, clause_part_at, parts_at, three_at, fields_at};
 ghost use Rattle.tn_fun_text.specs.Clauses.{numbered_part, fault_in_part};
 ghost use Rattle.tn_fun_text.specs.Reasons.{clause_part_seen};
 
 use crate::check::{CheckFault, check_expr};
+use crate::lists::elements;
 use crate::no_fun::{ClausePart, NoFun};
 use crate::pattern_check::check_head;
 use crate::reason::Reason;
@@ -59,7 +60,7 @@ fn check_part<'a, A: Allocator + Copy>(
     number: usize,
     term: &'a Term<A>,
 ) -> Result<(), FunTextFault<'a, A>>
-    ensures { IsClauseChecked (part_at scope clause number (tree_of term.now)) result }
+    ensures { IsClauseChecked (clause_part_at scope clause number (tree_of term.now)) result }
 {
     match check_expr(scope, term) {
         Ok(()) => Ok(()),
@@ -139,12 +140,13 @@ fn check_fields<'a, A: Allocator + Copy>(
     if fields.len() != 3 {
         return Err(in_part(clause, ClausePart::Head, Reason::NoCall("", 0)));
     }
-    match (&fields[1], &fields[2]) {
-        (Term::List(conditions), Term::List(body)) => check_three(
-            alloc, dialect, clause, &fields[0], conditions, body,
-        ),
-        _ => Err(in_part(clause, ClausePart::Head, Reason::NoCall("", 0))),
-    }
+    let Some(conditions) = elements(&fields[1]) else {
+        return Err(in_part(clause, ClausePart::Head, Reason::NoCall("", 0)));
+    };
+    let Some(body) = elements(&fields[2]) else {
+        return Err(in_part(clause, ClausePart::Head, Reason::NoCall("", 0)));
+    };
+    check_three(alloc, dialect, clause, &fields[0], conditions, body)
 }
 
 /// A clause.
@@ -184,8 +186,8 @@ pub fn check_fun<'a, A: Allocator + Copy>(
 ) -> Result<(), FunTextFault<'a, A>>
     ensures { IsClauseChecked (fun_printed (dialect_of dialect) (tree_of term.now)) result }
 {
-    match term {
-        Term::List(terms) => check_clauses(alloc, dialect, terms),
-        _ => Err(in_part(1, ClausePart::Head, Reason::NoCall("", 0))),
+    match elements(term) {
+        Some(terms) => check_clauses(alloc, dialect, terms),
+        None => Err(in_part(1, ClausePart::Head, Reason::NoCall("", 0))),
     }
 }

@@ -2,10 +2,11 @@
 ghost use Rattle.std.specs.Prelude.{◌≡◌, ◌++◌, OnOk, []};
 ghost use Rattle.tn_term.specs.Views.{tree_of, trees_of};
 ghost use Rattle.tn_spec.specs.Views.{dialect_of};
-ghost use Rattle.tn_fun_text.specs.Texts.{conditions_text, clause_text, clauses_text, whole_text};
+ghost use Rattle.tn_fun_text.specs.Texts.{conditions_text, fun_clause_text, clauses_text, whole_text};
 ghost use Rattle.tn_fun_text.specs.ClauseTexts.{body_text_at, three_text_at, fields_text_at};
 
 use crate::expr_text::put_items;
+use crate::lists::elements;
 use crate::pattern_text::put_head;
 use crate::scope::Scope;
 use std::alloc::{AllocError, Allocator};
@@ -85,12 +86,13 @@ fn put_fields<A: Allocator + Copy>(
     if fields.len() != 3 {
         return Ok(());
     }
-    match (&fields[1], &fields[2]) {
-        (Term::List(conditions), Term::List(body)) => put_three(
-            alloc, dialect, &fields[0], conditions, body, out,
-        ),
-        _ => Ok(()),
-    }
+    let Some(conditions) = elements(&fields[1]) else {
+        return Ok(());
+    };
+    let Some(body) = elements(&fields[2]) else {
+        return Ok(());
+    };
+    put_three(alloc, dialect, &fields[0], conditions, body, out)
 }
 
 /// Appends a clause.
@@ -100,7 +102,7 @@ fn put_clause<A: Allocator + Copy>(
     term: &Term<A>,
     out: &mut Vec<u8, A>,
 ) -> Result<(), AllocError>
-    ensures { OnOk result (out.new.items ≡ out.old.items ++ clause_text (dialect_of dialect) (tree_of term.now)) }
+    ensures { OnOk result (out.new.items ≡ out.old.items ++ fun_clause_text (dialect_of dialect) (tree_of term.now)) }
 {
     match term {
         Term::Tuple(fields) => put_fields(alloc, dialect, fields, out),
@@ -136,7 +138,7 @@ pub fn put_fun<A: Allocator + Copy>(
 ) -> Result<(), AllocError>
     ensures { OnOk result (out.new.items ≡ out.old.items ++ whole_text (dialect_of dialect) (tree_of term.now)) }
 {
-    let Term::List(terms) = term else {
+    let Some(terms) = elements(term) else {
         return Ok(());
     };
     out.extend_from_slice(b"fun")?;

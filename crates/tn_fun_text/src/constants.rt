@@ -7,7 +7,7 @@ ghost use Rattle.def_fun.specs.Constants.{truth_value, of_two_truths, if_truths,
 ghost use Rattle.def_fun.specs.Constants.{computed_between, computed_before};
 ghost use Rattle.tn_term.specs.Views.{tree_of};
 ghost use Rattle.tn_fun.specs.Tokens.{operator_seen};
-ghost use Rattle.tn_fun_text.specs.Constants.{computation_seen};
+ghost use Rattle.tn_fun_text.specs.Constants.{fun_computation_seen};
 
 use crate::integers::{Computation, before_integer, between_integers};
 use std::alloc::Allocator;
@@ -17,7 +17,7 @@ use tn_term::Term;
 
 /// An operator of two integers.
 fn of_integers<A: Allocator>(operator: Operator, left: &Term<A>, right: &Term<A>) -> Computation
-    ensures { computation_seen result
+    ensures { fun_computation_seen result
         ≡ gives_any (if_integers (operator_seen operator) (tree_of left.now) (tree_of right.now)) }
 {
     match (left, right) {
@@ -28,7 +28,7 @@ fn of_integers<A: Allocator>(operator: Operator, left: &Term<A>, right: &Term<A>
 
 /// An operator of one integer.
 fn of_integer<A: Allocator>(operator: Operator, operand: &Term<A>) -> Computation
-    ensures { computation_seen result ≡ gives_any (if_integer (operator_seen operator) (tree_of operand.now)) }
+    ensures { fun_computation_seen result ≡ gives_any (if_integer (operator_seen operator) (tree_of operand.now)) }
 {
     match operand {
         Term::Int(a) => before_integer(operator, *a),
@@ -53,7 +53,7 @@ fn comparison(operator: Operator, order: Ordering) -> Option<bool>
 
 /// `true` or `false`, where there is one.
 fn truth(value: Option<bool>) -> Computation
-    ensures { computation_seen result ≡ gives_any_truth value }
+    ensures { fun_computation_seen result ≡ gives_any_truth value }
 {
     match value {
         Some(b) => Computation::Truth(b),
@@ -109,7 +109,7 @@ fn denial<A: Allocator>(operator: Operator, operand: &Term<A>) -> Option<bool>
 
 /// The first that gives something.
 fn or_else(first: Computation, second: Computation) -> Computation
-    ensures { computation_seen result ≡ or_computed (computation_seen first) (computation_seen second) }
+    ensures { fun_computation_seen result ≡ or_computed (fun_computation_seen first) (fun_computation_seen second) }
 {
     match first {
         Computation::Nothing => second,
@@ -125,7 +125,7 @@ pub fn between_constants<A: Allocator>(
     left: &Term<A>,
     right: &Term<A>,
 ) -> Computation
-    ensures { computation_seen result
+    ensures { fun_computation_seen result
         ≡ computed_between (operator_seen operator) (tree_of left.now) (tree_of right.now) }
 {
     let integers = of_integers(operator, left, right);
@@ -136,7 +136,7 @@ pub fn between_constants<A: Allocator>(
 
 /// What an operator before a constant gives.
 pub fn before_constant<A: Allocator>(operator: Operator, operand: &Term<A>) -> Computation
-    ensures { computation_seen result ≡ computed_before (operator_seen operator) (tree_of operand.now) }
+    ensures { fun_computation_seen result ≡ computed_before (operator_seen operator) (tree_of operand.now) }
 {
     let integer = of_integer(operator, operand);
     let truths = truth(denial(operator, operand));

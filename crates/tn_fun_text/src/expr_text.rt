@@ -6,7 +6,8 @@ ghost use Rattle.tn_term.specs.Views.{tree_of, trees_of};
 ghost use Rattle.tn_fun.specs.Tokens.{operator_seen};
 ghost use Rattle.tn_fun_text.specs.Texts.{expr_atom_text, plain_atom_text, const_text, with_ends};
 ghost use Rattle.tn_fun_text.specs.Terms.{terms_from};
-ghost use Rattle.tn_fun_text.specs.ExprTexts.{text_at, named_text_at, items_at, list_at, between_at, before_at, call_at};
+ghost use Rattle.tn_fun_text.specs.ExprTexts.{text_at, named_text_at, items_at, list_at, between_at};
+ghost use Rattle.tn_fun_text.specs.ExprTexts.{before_at, call_at};
 
 use crate::leaf_text::{only_if, put_string, put_variable};
 use crate::lists::{has_list, is_text};
@@ -61,7 +62,7 @@ fn put_const<A: Allocator>(
     }
     match &terms[1] {
         Term::Atom(name) => write_atom(name, out),
-        _ => Ok(()),
+        Term::Int(_) | Term::Pid(_) | Term::Tuple(_) | Term::List(_) => Ok(()),
     }
 }
 
@@ -124,9 +125,15 @@ fn put_tuple<A: Allocator + Copy>(
         return Ok(());
     }
     match &terms[0] {
-        Term::Tuple(inner) if terms.len() == 1 => put_elements(scope, keeps, inner, out),
+        Term::Tuple(inner) => {
+            if terms.len() == 1 {
+                put_elements(scope, keeps, inner, out)
+            } else {
+                Ok(())
+            }
+        }
         Term::Atom(name) => put_named(scope, level, terms, name, out),
-        _ => Ok(()),
+        Term::Int(_) | Term::Pid(_) | Term::List(_) => Ok(()),
     }
 }
 

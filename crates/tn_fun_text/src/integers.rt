@@ -6,7 +6,7 @@ ghost use Rattle.def_term.specs.Tree.{int};
 ghost use Rattle.def_spec.specs.Functions.{in_64_bits, quotient, rest_of};
 ghost use Rattle.def_fun.specs.Constants.{gives_any, unless_zero, integer_between, integer_before};
 ghost use Rattle.tn_fun.specs.Tokens.{operator_seen};
-ghost use Rattle.tn_fun_text.specs.Constants.{computation_seen, CountsAs};
+ghost use Rattle.tn_fun_text.specs.Constants.{fun_computation_seen, AgreesWithInteger};
 
 use tn_fun::Operator;
 
@@ -22,7 +22,7 @@ pub enum Computation {
 
 /// The integer, where it is one of 64 bits.
 fn within_64_bits(value: Option<i64>) -> Computation
-    ensures { (z : ℤ) → option_map int value ≡ in_64_bits z → CountsAs result z }
+    ensures { (z : ℤ) → option_map int value ≡ in_64_bits z → AgreesWithInteger result z }
 {
     match value {
         Some(n) => Computation::Integer(n),
@@ -106,7 +106,7 @@ fn whole_remainder(a: i64, b: i64) -> Option<i64>
 
 /// `div`, which gives nothing where the divisor is 0.
 fn division(a: i64, b: i64) -> Computation
-    ensures { computation_seen result ≡ gives_any (unless_zero int_div a b) }
+    ensures { fun_computation_seen result ≡ gives_any (unless_zero int_div a b) }
 {
     if b == 0 {
         Computation::Nothing
@@ -117,7 +117,7 @@ fn division(a: i64, b: i64) -> Computation
 
 /// `rem`, which gives nothing where the divisor is 0.
 fn remainder(a: i64, b: i64) -> Computation
-    ensures { computation_seen result ≡ gives_any (unless_zero int_rem a b) }
+    ensures { fun_computation_seen result ≡ gives_any (unless_zero int_rem a b) }
 {
     if b == 0 {
         Computation::Nothing
@@ -128,7 +128,7 @@ fn remainder(a: i64, b: i64) -> Computation
 
 /// An operator between two integers.
 pub fn between_integers(operator: Operator, a: i64, b: i64) -> Computation
-    ensures { computation_seen result ≡ gives_any (integer_between (operator_seen operator) a b) }
+    ensures { fun_computation_seen result ≡ gives_any (integer_between (operator_seen operator) a b) }
 {
     match operator {
         Operator::Plus => within_64_bits(sum(a, b)),
@@ -145,7 +145,7 @@ pub fn between_integers(operator: Operator, a: i64, b: i64) -> Computation
 
 /// An operator before an integer.
 pub fn before_integer(operator: Operator, a: i64) -> Computation
-    ensures { computation_seen result ≡ gives_any (integer_before (operator_seen operator) a) }
+    ensures { fun_computation_seen result ≡ gives_any (integer_before (operator_seen operator) a) }
 {
     match operator {
         Operator::Minus => within_64_bits(negative(a)),

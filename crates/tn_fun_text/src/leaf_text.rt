@@ -3,7 +3,7 @@ ghost use Rattle.std.specs.Prelude.{◌≡◌, ◌++◌, OnOk, true};
 ghost use Rattle.def_fun.specs.FunTexts.{string_character, character_code, is_character_code, are_character_codes};
 ghost use Rattle.def_fun.specs.FunTexts.{is_text};
 ghost use Rattle.tn_term.specs.Views.{tree_of, trees_of};
-ghost use Rattle.tn_fun_text.specs.Texts.{variable_text, characters_text, only_if as bytes_if, each_character};
+ghost use Rattle.tn_fun_text.specs.Texts.{variable_text, fun_string_text, only_if as bytes_if, each_character};
 
 use std::alloc::{AllocError, Allocator};
 use tn_term::Term;
@@ -66,7 +66,7 @@ pub fn put_string<A: Allocator>(
     out: &mut Vec<u8, A>,
 ) -> Result<(), AllocError>
     requires { is_text (trees_of terms.now.items) ≡ true }
-    ensures { OnOk result (out.new.items ≡ out.old.items ++ characters_text (trees_of terms.now.items)) }
+    ensures { OnOk result (out.new.items ≡ out.old.items ++ fun_string_text (trees_of terms.now.items)) }
 {
     out.extend_from_slice(b"\"")?;
     put_codes(terms, out)?;

@@ -1,13 +1,25 @@
 // Lists that are printed as strings, and lists that are not.
 ghost use Rattle.std.specs.Prelude.{◌≡◌, not};
+ghost use Rattle.std.specs.Option.{option_map};
 ghost use Rattle.def_term.specs.Tree.{tuple};
 ghost use Rattle.def_fun.specs.FunTexts.{is_character_code, are_character_codes, is_text as is_text_of};
 ghost use Rattle.def_fun.specs.FunTexts.{has_list as has_a_list, have_list};
 ghost use Rattle.tn_term.specs.Views.{tree_of, trees_of};
+ghost use Rattle.tn_spec.specs.Answers.{list_elements};
 ghost use Rattle.tn_fun_text.specs.Terms.{terms_from};
 
 use std::alloc::Allocator;
 use tn_term::Term;
+
+/// The elements, where the term is a list.
+pub fn elements<A: Allocator>(term: &Term<A>) -> Option<&Vec<Term<A>, A>>
+    ensures { option_map (λ v. trees_of v.now.items) result ≡ list_elements (tree_of term.now) }
+{
+    match term {
+        Term::List(terms) => Some(terms),
+        _ => None,
+    }
+}
 
 /// Whether it is a character from 32 to 126.
 fn is_character<A: Allocator>(term: &Term<A>) -> bool
@@ -60,7 +72,7 @@ fn tuple_has_list<A: Allocator>(terms: &Vec<Term<A>, A>) -> bool
     }
     match &terms[0] {
         Term::Tuple(inner) => has_list_from(inner, 0),
-        _ => false,
+        Term::Int(_) | Term::Atom(_) | Term::Pid(_) | Term::List(_) => false,
     }
 }
 

@@ -1,14 +1,14 @@
 // Whether a fun has a pattern.
-ghost use Rattle.std.specs.Prelude.{◌≡◌, ◌≤◌, ◌||◌, not};
+ghost use Rattle.std.specs.Prelude.{◌≡◌, ◌+◌, ◌==◌, ◌≤◌, nat_lt, ◌||◌, not};
 ghost use Rattle.def_term.specs.Tree.{list};
 ghost use Rattle.def_spec.specs.Reading.{atom_kind, is_wildcard};
 ghost use Rattle.def_fun.specs.Translation.{are_digits as some_digits, is_signed, is_variable_atom};
-ghost use Rattle.def_fun.specs.FunTexts.{pattern_variable, pattern_atom, pattern_of_term, patterns_of_terms};
+ghost use Rattle.def_fun.specs.FunTexts.{pattern_atom, pattern_of_term, patterns_of_terms};
 ghost use Rattle.def_fun.specs.FunTexts.{head_of_term};
 ghost use Rattle.tn_term.specs.Views.{tree_of, trees_of};
 ghost use Rattle.tn_fun_text.specs.Patterns.{IsGreatest};
 
-use crate::lists::is_text;
+use crate::lists::{elements, is_text};
 use crate::reason::Reason;
 use std::alloc::Allocator;
 use tn_spec::{AtomKind, is_anything, kind_of};
@@ -57,16 +57,11 @@ fn may_be_in_head(text: &str) -> bool
     is_anything(text) || !is_no_head_atom(text)
 }
 
-/// The variable of a number, after the greatest so far: the greatest of both.
-fn check_variable<'a, A: Allocator>(greatest: u16, number: u16) -> Result<u16, Reason<'a, A>>
-    requires { greatest ≤ 999 }
-    ensures { IsGreatest (pattern_variable greatest number) result }
+/// Whether the variable of a number comes before one that must come first, after the greatest so far.
+fn comes_too_early(greatest: u16, number: u16) -> bool
+    ensures { result ≡ ((number == 0) || nat_lt (greatest + 1) number) }
 {
-    if number == 0 || number > greatest + 1 {
-        Err(Reason::WrongOrder(number, greatest + 1))
-    } else {
-        Ok(greatest.max(number))
-    }
+    number == 0 || number - 1 > greatest
 }
 
 /// An atom of a head, after the greatest number so far: the greatest number.
@@ -77,14 +72,21 @@ fn check_pattern_atom<'a, A: Allocator>(
     requires { greatest ≤ 999 }
     ensures { IsGreatest (pattern_atom greatest name.now (atom_kind name.now)) result }
 {
-    let text = name.text();
-    if let AtomKind::Variable(number) = kind_of(text) {
-        return check_variable(greatest, number);
-    }
-    if may_be_in_head(text) {
-        Ok(greatest)
-    } else {
-        Err(Reason::HeadAtom(name))
+    match kind_of(name.text()) {
+        AtomKind::Variable(number) => {
+            if comes_too_early(greatest, number) {
+                Err(Reason::WrongOrder(number, greatest + 1))
+            } else {
+                Ok(greatest.max(number))
+            }
+        }
+        AtomKind::WrongVariable | AtomKind::Plain => {
+            if may_be_in_head(name.text()) {
+                Ok(greatest)
+            } else {
+                Err(Reason::HeadAtom(name))
+            }
+        }
     }
 }
 
@@ -141,8 +143,8 @@ fn check_patterns<'a, A: Allocator>(
 pub fn check_head<'a, A: Allocator>(term: &'a Term<A>) -> Result<u16, Reason<'a, A>>
     ensures { IsGreatest (head_of_term (tree_of term.now)) result }
 {
-    match term {
-        Term::List(terms) => check_patterns(0, terms),
-        _ => check_pattern(0, term),
+    match elements(term) {
+        Some(terms) => check_patterns(0, terms),
+        None => check_pattern(0, term),
     }
 }

@@ -6,7 +6,7 @@ ghost use Rattle.tn_term.specs.Views.{tree_of, trees_of};
 ghost use Rattle.tn_fun_text.specs.Texts.{pattern_atom_text, pattern_text, patterns_text, head_text, with_ends};
 
 use crate::leaf_text::{put_string, put_variable};
-use crate::lists::is_text;
+use crate::lists::{elements, is_text};
 use std::alloc::{AllocError, Allocator};
 use tn_spec::{AtomKind, is_anything, kind_of};
 use tn_term::{Atom, Term};
@@ -95,8 +95,8 @@ fn put_each_pattern<A: Allocator>(
 pub fn put_head<A: Allocator>(term: &Term<A>, out: &mut Vec<u8, A>) -> Result<(), AllocError>
     ensures { OnOk result (out.new.items ≡ out.old.items ++ head_text (tree_of term.now)) }
 {
-    match term {
-        Term::List(terms) => put_patterns(b"[", terms, b"]", out),
-        _ => put_pattern(term, out),
+    match elements(term) {
+        Some(terms) => put_patterns(b"[", terms, b"]", out),
+        None => put_pattern(term, out),
     }
 }

@@ -5,7 +5,7 @@ ghost use Rattle.def_fun.specs.FunTexts.{no_fun_text, clause_part_text, no_fun_l
 ghost use Rattle.def_fun.specs.FunTexts.{wrong_order, no_other_const, no_pid, no_such_call, is_computed};
 ghost use Rattle.def_fun.specs.Variables.{dollar_name};
 ghost use Rattle.tn_term.specs.Views.{tree_of};
-ghost use Rattle.tn_fun_text.specs.Reasons.{reason_seen, clause_part_seen, no_fun_seen};
+ghost use Rattle.tn_fun_text.specs.Reasons.{no_fun_reason_seen, clause_part_seen, no_fun_seen};
 
 use crate::no_fun::{ClausePart, NoFun};
 use crate::reason::Reason;
@@ -100,7 +100,7 @@ fn put_reason<A: Allocator, B: Allocator>(
     reason: Reason<'_, A>,
     out: &mut Vec<u8, B>,
 ) -> Result<(), AllocError>
-    ensures { OnOk result (out.new.items ≡ out.old.items ++ no_fun_text (reason_seen reason.entry)) }
+    ensures { OnOk result (out.new.items ≡ out.old.items ++ no_fun_text (no_fun_reason_seen reason.entry)) }
 {
     match reason {
         Reason::WrongOrder(number, next) => put_wrong_order(number, next, out),

@@ -4,11 +4,13 @@ ghost use Rattle.def_term.specs.Tree.{tuple, list};
 ghost use Rattle.def_fun.specs.Translation.{begins_with_dollar as is_dollar_name};
 ghost use Rattle.def_fun.specs.FunTexts.{value_of_const, would_compute};
 ghost use Rattle.tn_term.specs.Views.{tree_of, trees_of};
-ghost use Rattle.tn_fun_text.specs.Constants.{computation_seen};
+ghost use Rattle.tn_fun_text.specs.Constants.{fun_computation_seen};
 ghost use Rattle.tn_fun_text.specs.Calls.{printed_call_seen};
 ghost use Rattle.tn_fun_text.specs.Terms.{terms_from};
-ghost use Rattle.tn_fun_text.specs.Values.{value_seen, values_seen, value_at, values_at, named_value_at, elements_value_at};
-ghost use Rattle.tn_fun_text.specs.Values.{atom_value, is_constant_atom, value_computed, computation_at, computation_of_terms};
+ghost use Rattle.tn_fun_text.specs.Values.{constant_seen, constants_seen, value_at, values_at, named_value_at};
+ghost use Rattle.tn_fun_text.specs.Values.{elements_value_at};
+ghost use Rattle.tn_fun_text.specs.Values.{atom_value, is_constant_atom, value_computed, computation_at};
+ghost use Rattle.tn_fun_text.specs.Values.{computation_of_terms};
 
 use crate::constants::{before_constant, between_constants};
 use crate::integers::Computation;
@@ -44,7 +46,7 @@ fn value_of_atom<A: Allocator + Copy>(
     alloc: A,
     name: &Atom<A>,
 ) -> Result<Option<Term<A>>, AllocError>
-    ensures { IfOk result (λ v. value_seen v ≡ atom_value name.now) }
+    ensures { IfOk result (λ v. constant_seen v ≡ atom_value name.now) }
 {
     if is_constant(name.text()) {
         Ok(Some(Term::Atom(name.copy_into(alloc)?)))
@@ -58,29 +60,37 @@ fn value_of_const<A: Allocator + Copy>(
     alloc: A,
     terms: &Vec<Term<A>, A>,
 ) -> Result<Option<Term<A>>, AllocError>
-    ensures { IfOk result (λ v. value_seen v ≡ value_of_const (terms_from 1 terms.now)) }
+    ensures { IfOk result (λ v. constant_seen v ≡ value_of_const (terms_from 1 terms.now)) }
 {
     if terms.len() != 2 {
         return Ok(None);
     }
     match &terms[1] {
         Term::Atom(name) => Ok(Some(Term::Atom(name.copy_into(alloc)?))),
-        _ => Ok(None),
+        Term::Int(_) | Term::Pid(_) | Term::Tuple(_) | Term::List(_) => Ok(None),
     }
 }
 
 /// What the operator gives of these values.
 fn computation_of_values<A: Allocator>(call: PrintedCall, values: &Vec<Term<A>, A>) -> Computation
-    ensures { computation_seen result ≡ computation_of_terms (printed_call_seen call) values.now.items }
+    ensures { fun_computation_seen result ≡ computation_of_terms (printed_call_seen call) values.now.items }
 {
     match call {
-        PrintedCall::Before(operator) if values.len() == 1 => before_constant(operator, &values[0]),
-        PrintedCall::Between(operator) if values.len() == 2 => between_constants(
-            operator,
-            &values[0],
-            &values[1],
-        ),
-        _ => Computation::Nothing,
+        PrintedCall::Before(operator) => {
+            if values.len() == 1 {
+                before_constant(operator, &values[0])
+            } else {
+                Computation::Nothing
+            }
+        }
+        PrintedCall::Between(operator) => {
+            if values.len() == 2 {
+                between_constants(operator, &values[0], &values[1])
+            } else {
+                Computation::Nothing
+            }
+        }
+        PrintedCall::Call | PrintedCall::Nothing => Computation::Nothing,
     }
 }
 
@@ -89,7 +99,7 @@ fn value_of_computation<A: Allocator + Copy>(
     alloc: A,
     computation: Computation,
 ) -> Result<Option<Term<A>>, AllocError>
-    ensures { IfOk result (λ v. value_seen v ≡ value_computed (computation_seen computation)) }
+    ensures { IfOk result (λ v. constant_seen v ≡ value_computed (fun_computation_seen computation)) }
 {
     match computation {
         Computation::Integer(n) => Ok(Some(Term::Int(n))),
@@ -107,7 +117,7 @@ fn value_of<A: Allocator + Copy>(
     scope: Scope<A>,
     term: &Term<A>,
 ) -> Result<Option<Term<A>>, AllocError>
-    ensures { IfOk result (λ v. value_seen v ≡ value_at scope (tree_of term.now)) }
+    ensures { IfOk result (λ v. constant_seen v ≡ value_at scope (tree_of term.now)) }
 {
     match term {
         Term::Int(n) => Ok(Some(Term::Int(*n))),
@@ -124,7 +134,7 @@ fn value_of_list<A: Allocator + Copy>(
     scope: Scope<A>,
     terms: &Vec<Term<A>, A>,
 ) -> Result<Option<Term<A>>, AllocError>
-    ensures { IfOk result (λ v. value_seen v ≡ value_at scope (list (trees_of terms.now.items))) }
+    ensures { IfOk result (λ v. constant_seen v ≡ value_at scope (list (trees_of terms.now.items))) }
 {
     if is_text(terms) {
         return Ok(None);
@@ -141,15 +151,21 @@ fn value_of_tuple<A: Allocator + Copy>(
     scope: Scope<A>,
     terms: &Vec<Term<A>, A>,
 ) -> Result<Option<Term<A>>, AllocError>
-    ensures { IfOk result (λ v. value_seen v ≡ value_at scope (tuple (trees_of terms.now.items))) }
+    ensures { IfOk result (λ v. constant_seen v ≡ value_at scope (tuple (trees_of terms.now.items))) }
 {
     if terms.is_empty() {
         return Ok(None);
     }
     match &terms[0] {
-        Term::Tuple(inner) if terms.len() == 1 => value_of_elements(scope, inner),
+        Term::Tuple(inner) => {
+            if terms.len() == 1 {
+                value_of_elements(scope, inner)
+            } else {
+                Ok(None)
+            }
+        }
         Term::Atom(name) => value_of_named(scope, terms, name),
-        _ => Ok(None),
+        Term::Int(_) | Term::Pid(_) | Term::List(_) => Ok(None),
     }
 }
 
@@ -159,7 +175,7 @@ fn value_of_elements<A: Allocator + Copy>(
     scope: Scope<A>,
     terms: &Vec<Term<A>, A>,
 ) -> Result<Option<Term<A>>, AllocError>
-    ensures { IfOk result (λ v. value_seen v ≡ elements_value_at scope terms.now) }
+    ensures { IfOk result (λ v. constant_seen v ≡ elements_value_at scope terms.now) }
 {
     match values_from(scope, terms, 0)? {
         Some(values) => Ok(Some(Term::Tuple(values))),
@@ -175,7 +191,7 @@ fn value_of_named<A: Allocator + Copy>(
     name: &Atom<A>,
 ) -> Result<Option<Term<A>>, AllocError>
     requires { 0 < length terms.now.items }
-    ensures { IfOk result (λ v. value_seen v ≡ named_value_at scope name.now terms.now) }
+    ensures { IfOk result (λ v. constant_seen v ≡ named_value_at scope name.now terms.now) }
 {
     if name.text() == "const" {
         return value_of_const(scope.alloc, terms);
@@ -195,7 +211,7 @@ fn computation_of<A: Allocator + Copy>(
     name: &Atom<A>,
 ) -> Result<Computation, AllocError>
     requires { 0 < length terms.now.items }
-    ensures { IfOk result (λ c. computation_seen c ≡ computation_at scope name.now terms.now) }
+    ensures { IfOk result (λ c. fun_computation_seen c ≡ computation_at scope name.now terms.now) }
 {
     let call = printed_call(scope.dialect, scope.part, name.text(), terms.len() - 1);
     match values_from(scope, terms, 1)? {
@@ -211,7 +227,7 @@ fn values_from<A: Allocator + Copy>(
     terms: &Vec<Term<A>, A>,
     from: usize,
 ) -> Result<Option<Vec<Term<A>, A>>, AllocError>
-    ensures { IfOk result (λ v. values_seen v ≡ values_at scope (terms_from from terms.now)) }
+    ensures { IfOk result (λ v. constants_seen v ≡ values_at scope (terms_from from terms.now)) }
 {
     let mut values = Vec::new(scope.alloc);
     for i in from..terms.len() {
