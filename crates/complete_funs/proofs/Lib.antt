@@ -1,3 +1,3 @@
-mod Printed
+mod PrintedAlike
 pub mod Readings
 mod Translations

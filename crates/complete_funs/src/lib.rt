@@ -5,8 +5,8 @@
 //! Depends on def_fun, tn_fun, tn_translation and tn_fun_text. Promises nothing to other crates.
 #![tactic(auto)]
 
+mod fun_text;
 mod names;
-mod printed;
 mod reading;
 mod specification;
 mod tokens;

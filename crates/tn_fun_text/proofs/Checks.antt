@@ -1,5 +1,5 @@
 -- Why no fun has an expression.
-use Rattle.std.proofs.Common.{◌≡◌, ◌≢◌, ◌∙◌, ℕ, ℤ, ◌+◌, ◌-◌, ◌<◌, ◌≤◌, Bool, true, false, not, ◌&&◌, ◌||◌, if◌then◌else◌, List, [], length, get_or, drop, Option, Some, None, Result, Ok, Err, codes, refl, sym, ap, ap₂, subst}
+use Rattle.std.proofs.Common.{◌≡◌, ◌≢◌, ◌∙◌, ℕ, ℤ, ◌+◌, ◌-◌, ◌<◌, ◌≤◌, Bool, true, false, not, ◌&&◌, ◌||◌, if◌then◌else◌, List, [], ◌∷◌, length, get_or, drop, Option, Some, None, Result, Ok, Err, codes, refl, sym, ap, ap₂, subst, arith}
 use Rattle.std.specs.Str.{bytes_eq}
 use Rattle.std.specs.Option.{option_or}
 use Rattle.def_term.specs.Tree.{Tree, int, atom, pid, tuple, list, Trees, none, more, count}
@@ -212,3 +212,7 @@ module _ (d : Dialect) (part : Position) where
   pub list_is_none : {A : Type 0} (xs : List (Term A)) (x : Term A) (ts : Trees) (n : ℕ) → 0 < length xs → x ≡ get_or xs 0 x → tree_of x ≡ list ts → n ≡ length xs
       → no_fun_reason (expr_of_term d part (tuple (trees_of xs))) ≡ Some (no_such_call [] n)
   list_is_none xs x ts n some is e counted = with_count xs n counted (subst NoneOf (sym (first_is xs x (list ts) some is e)) refl)
+
+  pub empty_is_none : {A : Type 0} (xs : List (Term A)) → length xs ≡ 0 → no_fun_reason (expr_of_term d part (tuple (trees_of xs))) ≡ Some (no_such_call [] 0)
+  empty_is_none [] none_there = refl
+  empty_is_none (x ∷ xs) none_there = absurd (omega (arith, none_there))

@@ -10,8 +10,10 @@ use Rattle.tn_spec.specs.Answers.{list_elements}
 use Rattle.tn_fun_text.specs.declared.clause_check.FunTextFault.{FunTextFault}
 use Rattle.tn_fun_text.specs.declared.clause_check.FunTextFault.TheVariants as faults
 use Rattle.tn_fun_text.specs.Patterns.{greatest_in}
-use Rattle.tn_fun_text.specs.Reasons.{no_fun_reason}
-use Rattle.tn_fun_text.specs.Clauses.{no_fun_in, SaysNoFun}
+use Rattle.tn_fun_text.specs.Reasons.{no_fun_reason, no_fun_reason_seen}
+use Rattle.tn_fun_text.specs.Clauses.{no_fun_in, SaysNoFun, fault_in_part}
+use Rattle.tn_fun_text.specs.declared.no_fun.ClausePart.TheVariants as parts
+use Rattle.tn_fun_text.specs.declared.reason.Reason.{Reason}
 use Rattle.tn_fun_text.specs.Texts.{parts_text, fun_clause_text}
 use Rattle.tn_fun_text.proofs.Heads.{list_is}
 use Rattle.tn_fun_text.proofs.Loops.{of_next}
@@ -264,3 +266,9 @@ printed_text (Err n) e = absurd (cc)
 pub not_printed : (r : Result (List ℕ) NoFun) (n : NoFun) → no_fun_in r ≡ Some n → r ≡ Err n
 not_printed (Ok u) n e = absurd (cc)
 not_printed (Err m) n e = let same : m ≡ n = cc in ap Err same
+
+-- the fault of a clause that is none
+pub in_clause_head : {A U : Type 0} (fault : FunTextFault A) (r : Result (List ℕ) NoFun) (n : ℕ) (q : Reason A) → fault ≡ fault_in_part n parts.Head q → no_fun_reason_seen q ≡ no_such_call [] 0
+    → r ≡ Err (record { clause = n; part = the_head; reason = no_such_call [] 0 }) → SaysNoFun {A = A} {U = U} (no_fun_in r) (Err fault)
+in_clause_head {A} {U} fault r n q is seen none_of =
+    subst (λ f. SaysNoFun {A = A} {U = U} (no_fun_in r) (Err f)) (sym is) (ap no_fun_in none_of ∙ ap (λ x. Some (record { clause = n; part = the_head; reason = x })) (sym seen))

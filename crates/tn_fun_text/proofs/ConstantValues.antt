@@ -1,6 +1,7 @@
 -- The values of terms that a fun would have as constants.
-use Rattle.std.proofs.Common.{◌≡◌, ◌≢◌, ◌∙◌, ℕ, ◌+◌, ◌-◌, ◌<◌, ◌≤◌, Bool, true, false, not, ◌&&◌, ◌||◌, if◌then◌else◌, List, [], ◌∷◌, ◌++◌, length, get_or, drop, map, Option, Some, None, codes, refl, sym, ap, ap₂, append_assoc, append-nil, arith}
+use Rattle.std.proofs.Common.{◌≡◌, ◌≢◌, ◌∙◌, ℕ, ◌+◌, ◌-◌, ◌<◌, ◌≤◌, Bool, true, false, not, ◌&&◌, ◌||◌, if◌then◌else◌, List, [], ◌∷◌, ◌++◌, length, get_or, drop, map, Option, Some, None, Result, Ok, Err, codes, refl, sym, ap, ap₂, append_assoc, append-nil, arith}
 use Rattle.std.proofs.lemmas.List.{map-append}
+use Rattle.std.specs.Result.{IfOk}
 use Rattle.std.specs.Str.{bytes_eq}
 use Rattle.def_term.specs.Tree.{Tree, int, atom, pid, tuple, list, Trees, none, more, of_elements, count}
 use Rattle.def_term.specs.Names.{Name}
@@ -143,3 +144,14 @@ module _ (d : Dialect) (part : Position) where
 
   pub several_in_tuple : (ts us : Trees) (u : Tree) → value_in_fun d part (tuple (more (tuple ts) (more u us))) ≡ None
   several_in_tuple ts us u = refl
+
+-- ---- what a call answers
+
+-- the same value under another name
+pub as_value : {T E : Type 0} (r : Result T E) (f : T → Option Tree) (o p : Option Tree) → o ≡ p → IfOk r (λ v. f v ≡ o) → IfOk r (λ v. f v ≡ p)
+as_value (Ok v) f o p same said = said ∙ same
+as_value (Err e) f o p same said = tt
+
+pub empty_tuple_value : {A : Type 0} (d : Dialect) (part : Position) (xs : List (Term A)) → length xs ≡ 0 → None ≡ value_in_fun d part (tuple (trees_of xs))
+empty_tuple_value d part [] none_there = refl
+empty_tuple_value d part (x ∷ xs) none_there = absurd (omega (arith, none_there))

@@ -163,3 +163,7 @@ module _ (d : Dialect) (part : Position) where
   pub before_written : {A : Type 0} (xs : List (Term A)) (x : Term A) (k l : Bool) → length xs ≡ 2 → x ≡ get_or xs 1 x → l ≡ (k && has_list (tree_of x))
       → fun_expr_text d part PREFIX_LEVEL l (tree_of x) ≡ first_text d part PREFIX_LEVEL k (trees_of (drop 1 xs))
   before_written xs x k l two is left = ap (λ h. fun_expr_text d part PREFIX_LEVEL h (tree_of x)) left ∙ sym (ap (first_text d part PREFIX_LEVEL k) (second_is xs x (tree_of x) two is refl))
+
+  pub empty_tuple_text : {A : Type 0} (n : ℕ) (k : Bool) (xs : List (Term A)) → length xs ≡ 0 → fun_expr_text d part n k (tuple (trees_of xs)) ≡ []
+  empty_tuple_text n k [] none_there = refl
+  empty_tuple_text n k (x ∷ xs) none_there = absurd (omega (arith, none_there))

@@ -67,6 +67,7 @@ pub data IsNoVariable : AtomKind → Type 0 where
   plain_is_none : IsNoVariable a_plain_atom
 
 no_variable : (g : ℕ) (s : Name) (k : AtomKind) → IsNoVariable k → pattern_atom g s k ≡ plain_pattern (is_wildcard s) (is_variable_atom s) g s
+no_variable g s (a_variable n) h = elim h [ ]
 no_variable g s a_wrong_variable wrong_is_none = refl
 no_variable g s a_plain_atom plain_is_none = refl
 

@@ -8,4 +8,5 @@ mod Checks
 mod ClauseChecks
 mod ExprWritten
 mod NumberedAtoms
+mod PrintedFuns
 mod WrittenTexts
