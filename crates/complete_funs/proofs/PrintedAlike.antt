@@ -3,7 +3,7 @@ use Rattle.std.proofs.Common.{◌≡◌, ◌∙◌, ℕ, List, ◌++◌, Result,
 use Rattle.def_fun.specs.FunTexts as texts
 use Rattle.tn_fun_text.specs.declared.clause_check.FunTextFault.{FunTextFault}
 use Rattle.tn_fun_text.specs.declared.clause_check.FunTextFault.TheVariants as faults
-use Rattle.tn_fun_text.specs.Printed.{IsPrinted}
+use Rattle.tn_fun_text.specs.WrittenFuns.{IsPrinted}
 use Rattle.tn_fun_text.specs.Reasons.{no_fun_seen}
 use Rattle.complete_funs.specs.PrintedAnswers.{ArePrintedAlike}
 

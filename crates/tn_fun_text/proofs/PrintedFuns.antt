@@ -7,7 +7,7 @@ use Rattle.tn_fun_text.specs.declared.clause_check.FunTextFault.{FunTextFault}
 use Rattle.tn_fun_text.specs.declared.clause_check.FunTextFault.TheVariants as faults
 use Rattle.tn_fun_text.specs.Clauses.{no_fun_in, SaysNoFun}
 use Rattle.tn_fun_text.specs.Reasons.{no_fun_seen}
-use Rattle.tn_fun_text.specs.Printed.{HasText, IsPrinted}
+use Rattle.tn_fun_text.specs.WrittenFuns.{HasText, IsPrinted}
 use Rattle.tn_fun_text.specs.Texts.{whole_text}
 use Rattle.tn_fun_text.proofs.ClauseChecks.{printed_text, not_printed}
 use Rattle.tn_fun_text.proofs.WrittenTexts.{fun_said}

@@ -1,4 +1,4 @@
--- What the code's checks of expressions are held against.
+-- What the code's checks of expressions are compared with.
 use Rattle.std.specs.Prelude.{Bool, true, false, ◌||◌, if◌then◌else◌, Option, Some, None, codes}
 use Rattle.std.specs.Str.{bytes_eq}
 use Rattle.std.specs.Option.{option_or}

@@ -1,4 +1,4 @@
--- What the code's checks of clauses are held against.
+-- What the code's checks of clauses are compared with.
 use Rattle.std.specs.Prelude.{◌≡◌, ℕ, List, Option, Some, None, Result, Ok, Err}
 use Rattle.std.specs.declared.vec.Vec.{Vec}
 use Rattle.def_term.specs.Tree.{Tree, tuple, Trees}

@@ -9,4 +9,4 @@ pub mod Texts
 pub mod ExprTexts
 pub mod Clauses
 pub mod ClauseTexts
-pub mod Printed
+pub mod WrittenFuns

@@ -1,4 +1,4 @@
--- What the code's checks of heads are held against.
+-- What the code's checks of heads are compared with.
 use Rattle.std.specs.Prelude.{◌≡◌, ℕ, ◌≤◌, Result, Ok, Err}
 use Rattle.def_fun.specs.FunTexts.{OrReason, NoFunReason}
 use Rattle.tn_fun_text.specs.declared.reason.Reason.{Reason}

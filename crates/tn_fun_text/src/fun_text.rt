@@ -3,7 +3,7 @@ ghost use Rattle.std.specs.Prelude.{◌≡◌};
 ghost use Rattle.def_fun.specs.FunTexts.{fun_printed};
 ghost use Rattle.tn_term.specs.Views.{tree_of};
 ghost use Rattle.tn_spec.specs.Views.{dialect_of};
-ghost use Rattle.tn_fun_text.specs.Printed.{IsPrinted};
+ghost use Rattle.tn_fun_text.specs.WrittenFuns.{IsPrinted};
 
 use crate::clause_check::{FunTextFault, check_fun};
 use crate::clause_text::put_fun;

@@ -12,15 +12,15 @@ pub check_patterns-loop-i-preserved : goal.check_patterns-loop-i-preserved
 check_patterns-loop-i-preserved g t c =
     let stored = c.args.terms.now.ok.0 in
     record {
-      greatest = pattern_next c.args.terms.now.items c.loop-i.i c.index.result.now (omega arith) c.index.ensures _ c.loop-i.greatest c.in_ok-check_pattern.field-0 c.in_ok-check_pattern.ensures.0 c.loop-i.invariant.greatest;
-      few = c.in_ok-check_pattern.ensures.1;
+      greatest = pattern_next c.args.terms.now.items c.loop-i.i c.index.result.now (omega arith) c.index.ensures _ c.loop-i.greatest _ c.in_ok-greatest.ensures.0 c.loop-i.invariant.greatest;
+      few = c.in_ok-greatest.ensures.1;
     }
 
-pub check_patterns-returns-in_err-check_pattern : goal.check_patterns-returns-in_err-check_pattern
-check_patterns-returns-in_err-check_pattern g t c =
+pub check_patterns-returns-in_err-greatest : goal.check_patterns-returns-in_err-greatest
+check_patterns-returns-in_err-greatest g t c =
     let stored = c.args.terms.now.ok.0 in
     let p = err_from_is_err_and c.from_residual.result c.from_residual.ensures.1 in
-    rw (p.1, p.2) (pattern_fails c.args.terms.now.items c.loop-i.i c.index.result.now (omega arith) c.index.ensures _ c.loop-i.greatest _ c.in_err-check_pattern.ensures c.loop-i.invariant.greatest)
+    rw (p.1, p.2) (pattern_fails c.args.terms.now.items c.loop-i.i c.index.result.now (omega arith) c.index.ensures _ c.loop-i.greatest _ c.in_err-greatest.ensures c.loop-i.invariant.greatest)
 
 pub check_patterns-returns : goal.check_patterns-returns
 check_patterns-returns g t c =

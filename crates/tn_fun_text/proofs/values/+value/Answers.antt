@@ -1,4 +1,4 @@
-use Rattle.std.proofs.Common.{◌≡◌, Some, None, map, refl, sym, ap, ◌∙◌, length, arith, inl, inr}
+use Rattle.std.proofs.Common.{◌≡◌, ◌≢◌, Some, None, map, refl, sym, ap, ◌∙◌, length, arith, inl, inr}
 use Rattle.def_term.specs.Tree.{Trees, int, atom, pid, tuple, list, of_elements}
 use Rattle.def_fun.specs.Translation.{constant_of}
 use Rattle.def_fun.specs.FunTexts.{value_in_fun}
@@ -6,8 +6,8 @@ use Rattle.tn_term.specs.Views.{tree_of, trees_of}
 use Rattle.tn_term.proofs.Views.{tree_of_int, tree_of_atom, tree_of_pid, tree_of_tuple, tree_of_list}
 use Rattle.tn_spec.specs.Names.{position_seen}
 use Rattle.tn_spec.specs.Views.{dialect_of}
-use Rattle.tn_fun_text.specs.Values.{constant_seen}
-use Rattle.tn_fun_text.proofs.Places.{first_is, alone_is, crowd, empty}
+use Rattle.tn_fun_text.specs.Values.{constant_seen, constants_seen}
+use Rattle.tn_fun_text.proofs.Places.{first_is, alone_is, crowd, empty, not_empty}
 use Rattle.tn_fun_text.proofs.ConstantValues.{value_next, value_fails, values_end, text_value, list_value, as_value, empty_tuple_value}
 use Rattle.tn_fun_text.proofs.values.+value.Goals as goal
 
@@ -15,13 +15,13 @@ pub values_from-loop-i-preserved : goal.values_from-loop-i-preserved
 values_from-loop-i-preserved g t c =
     let stored = c.args.terms.now.ok.0 in
     let w = c.args.scope in
-    value_next (dialect_of w.dialect) (position_seen w.part) c.args.terms.now.items c.loop-i.i c.index.result.now c.loop-i.values.items c.push.new.self.items c.in-Some.value _ (omega arith) c.index.ensures c.in-Some.ensures c.in_ok-push.ensures.items c.loop-i.invariant
+    value_next (dialect_of w.dialect) (position_seen w.part) c.args.terms.now.items c.loop-i.i c.index.result.now c.loop-i.values.items c.push.new.self.items c.in-Some.value _ (omega arith) c.index.ensures (ap constant_seen (sym c.in-Some.is) ∙ c.in_ok-value_of.ensures) c.in_ok-push.ensures.items c.loop-i.invariant
 
 pub values_from-returns-in-None : goal.values_from-returns-in-None
 values_from-returns-in-None g t c =
     let stored = c.args.terms.now.ok.0 in
     let w = c.args.scope in
-    value_fails (dialect_of w.dialect) (position_seen w.part) c.args.terms.now.items c.loop-i.i c.index.result.now c.loop-i.values.items _ (omega arith) c.index.ensures c.in-None.ensures c.loop-i.invariant
+    value_fails (dialect_of w.dialect) (position_seen w.part) c.args.terms.now.items c.loop-i.i c.index.result.now c.loop-i.values.items _ (omega arith) c.index.ensures (ap constant_seen (sym c.in-None.is) ∙ c.in_ok-value_of.ensures) c.loop-i.invariant
 
 pub values_from-returns : goal.values_from-returns
 values_from-returns g t c =
@@ -58,18 +58,18 @@ pub value_of_list-returns-in-Some : goal.value_of_list-returns-in-Some
 value_of_list-returns-in-Some g t c =
     let w = c.args.scope in
     ap Some (tree_of_list c.in-Some.values)
-    ∙ list_value (dialect_of w.dialect) (position_seen w.part) (trees_of c.args.terms.now.items) (Some (map tree_of c.in-Some.values.items)) (sym c.if-is_text.false ∙ c.is_text.ensures) c.in-Some.ensures
+    ∙ list_value (dialect_of w.dialect) (position_seen w.part) (trees_of c.args.terms.now.items) (Some (map tree_of c.in-Some.values.items)) (sym c.if-is_text.false ∙ c.is_text.ensures) (ap constants_seen (sym c.in-Some.is) ∙ c.in_ok-values_from.ensures)
 
 pub value_of_list-returns-in-None : goal.value_of_list-returns-in-None
 value_of_list-returns-in-None g t c =
     let w = c.args.scope in
-    list_value (dialect_of w.dialect) (position_seen w.part) (trees_of c.args.terms.now.items) None (sym c.if-is_text.false ∙ c.is_text.ensures) c.in-None.ensures
+    list_value (dialect_of w.dialect) (position_seen w.part) (trees_of c.args.terms.now.items) None (sym c.if-is_text.false ∙ c.is_text.ensures) (ap constants_seen (sym c.in-None.is) ∙ c.in_ok-values_from.ensures)
 
 pub value_of_elements-returns-in-Some : goal.value_of_elements-returns-in-Some
-value_of_elements-returns-in-Some g t c = ap Some (tree_of_tuple c.in-Some.values) ∙ ap (constant_of (λ vs. tuple (of_elements vs))) c.in-Some.ensures
+value_of_elements-returns-in-Some g t c = ap Some (tree_of_tuple c.in-Some.values) ∙ ap (constant_of (λ vs. tuple (of_elements vs))) (ap constants_seen (sym c.in-Some.is) ∙ c.in_ok-values_from.ensures)
 
 pub value_of_elements-returns-in-None : goal.value_of_elements-returns-in-None
-value_of_elements-returns-in-None g t c = ap (constant_of (λ vs. tuple (of_elements vs))) c.in-None.ensures
+value_of_elements-returns-in-None g t c = ap (constant_of (λ vs. tuple (of_elements vs))) (ap constants_seen (sym c.in-None.is) ∙ c.in_ok-values_from.ensures)
 
 pub value_of_tuple-returns-then-is_empty : goal.value_of_tuple-returns-then-is_empty
 value_of_tuple-returns-then-is_empty g t c =
@@ -88,12 +88,14 @@ value_of_tuple-returns-then-len-eq1 g t c =
 pub value_of_tuple-returns-else-len-eq1 : goal.value_of_tuple-returns-else-len-eq1
 value_of_tuple-returns-else-len-eq1 g t c =
     let stored = c.args.terms.now.ok.0 in
+    let some : length c.args.terms.now.items ≢ 0 = not_empty c.is_empty.result _ (length c.args.terms.now.items) c.is_empty.ensures c.if-is_empty.false c.args.terms.now.ok.0 in
     let w = c.args.scope in
     sym (crowd (λ ts. value_in_fun (dialect_of w.dialect) (position_seen w.part) (tuple ts) ≡ None) (tuple (trees_of c.in-Tuple.inner.items)) (λ u us. refl) c.args.terms.now.items c.index.result.now (omega arith) c.index.ensures (ap tree_of c.in-Tuple.is ∙ tree_of_tuple c.in-Tuple.inner))
 
 pub value_of_tuple-returns-in-Atom : goal.value_of_tuple-returns-in-Atom
 value_of_tuple-returns-in-Atom g t c =
     let stored = c.args.terms.now.ok.0 in
+    let some : length c.args.terms.now.items ≢ 0 = not_empty c.is_empty.result _ (length c.args.terms.now.items) c.is_empty.ensures c.if-is_empty.false c.args.terms.now.ok.0 in
     let w = c.args.scope in
     let value = λ (ts : Trees). value_in_fun (dialect_of w.dialect) (position_seen w.part) (tuple ts) in
     as_value c.value_of_named.result constant_seen _ _
@@ -102,6 +104,7 @@ value_of_tuple-returns-in-Atom g t c =
 pub value_of_tuple-returns-in-Int : goal.value_of_tuple-returns-in-Int
 value_of_tuple-returns-in-Int g t c =
     let stored = c.args.terms.now.ok.0 in
+    let some : length c.args.terms.now.items ≢ 0 = not_empty c.is_empty.result _ (length c.args.terms.now.items) c.is_empty.ensures c.if-is_empty.false c.args.terms.now.ok.0 in
     let w = c.args.scope in
     let xs = c.args.terms.now.items in
     let x = c.index.result.now in
