@@ -20,25 +20,25 @@ refusal_words (minus_alone at) = codes "write 0 - X"
 refusal_words (whole_head s at) = codes "both parts of the head are this variable"
 
 -- the offset of what is refused; a text that is too long has none
-abbrev pub offset_of : FunRefusal → Option ℕ
-offset_of too_long = None
-offset_of (misplaced_token at) = Some at
-offset_of (no_such s at) = Some at
-offset_of (too_deep_at at) = Some at
-offset_of (too_large_at at) = Some at
-offset_of (unbound s at) = Some at
-offset_of (no_function f n at) = Some at
-offset_of (unsupported f at) = Some at
-offset_of (head_atom a at) = Some at
-offset_of (list_with_tail at) = Some at
-offset_of (minus_alone at) = Some at
-offset_of (whole_head s at) = Some at
+abbrev pub fun_refusal_offset : FunRefusal → Option ℕ
+fun_refusal_offset too_long = None
+fun_refusal_offset (misplaced_token at) = Some at
+fun_refusal_offset (no_such s at) = Some at
+fun_refusal_offset (too_deep_at at) = Some at
+fun_refusal_offset (too_large_at at) = Some at
+fun_refusal_offset (unbound s at) = Some at
+fun_refusal_offset (no_function f n at) = Some at
+fun_refusal_offset (unsupported f at) = Some at
+fun_refusal_offset (head_atom a at) = Some at
+fun_refusal_offset (list_with_tail at) = Some at
+fun_refusal_offset (minus_alone at) = Some at
+fun_refusal_offset (whole_head s at) = Some at
 
 -- `LINE:COLUMN: ` of an offset
-abbrev pub place_text : List ℕ → Option ℕ → List ℕ
-place_text text None = []
-place_text text (Some at) = decimal (place_at text at).line ++ codes ":" ++ decimal (place_at text at).column ++ codes ": "
+abbrev pub fun_place_text : List ℕ → Option ℕ → List ℕ
+fun_place_text text None = []
+fun_place_text text (Some at) = decimal (place_at text at).line ++ codes ":" ++ decimal (place_at text at).column ++ codes ": "
 
 -- the line on standard error, without its line feed
 abbrev pub refusal_notice : List ℕ → FunRefusal → List ℕ
-refusal_notice text r = codes "fun: " ++ place_text text (offset_of r) ++ refusal_words r
+refusal_notice text r = codes "fun: " ++ fun_place_text text (fun_refusal_offset r) ++ refusal_words r

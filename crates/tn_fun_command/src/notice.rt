@@ -3,7 +3,7 @@ ghost use Rattle.std.specs.Prelude.{◌≡◌, ◌++◌, OnOk, Some};
 ghost use Rattle.std.specs.Option.{option_map};
 ghost use Rattle.def_fun.specs.Refusals.{FunRefusal};
 ghost use Rattle.tn_translation.specs.Faults.{fun_fault_seen};
-ghost use Rattle.tn_fun_command.specs.Words.{offset_of, place_text, refusal_notice, refusal_words};
+ghost use Rattle.tn_fun_command.specs.Words.{fun_refusal_offset, fun_place_text, refusal_notice, refusal_words};
 
 use std::alloc::{AllocError, Allocator};
 use tn_refusal::line_column_of;
@@ -33,7 +33,7 @@ fn words_of(fault: FunFault) -> &'static str
 
 /// The offset of what is refused.
 fn place_of(fault: FunFault) -> Option<usize>
-    ensures { (text : List ℕ) (r : FunRefusal) → fun_fault_seen text fault ≡ Some r → result ≡ offset_of r }
+    ensures { (text : List ℕ) (r : FunRefusal) → fun_fault_seen text fault ≡ Some r → result ≡ fun_refusal_offset r }
 {
     match fault {
         FunFault::TooLong | FunFault::OutOfMemory => None,
@@ -57,7 +57,7 @@ fn put_place<A: Allocator>(
     at: Option<usize>,
     out: &mut Vec<u8, A>,
 ) -> Result<(), AllocError>
-    ensures { OnOk result (out.new.items ≡ out.old.items ++ place_text bytes.now at) }
+    ensures { OnOk result (out.new.items ≡ out.old.items ++ fun_place_text bytes.now at) }
 {
     let Some(at) = at else {
         return Ok(());

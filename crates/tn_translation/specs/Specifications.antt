@@ -26,8 +26,8 @@ abbrev pub matched_names : List ℕ → Option Token → List Name → variables
 matched_names text whole ss = record { of_whole = option_map (token_name text) whole; numbers = with_names (option_map (token_name text) whole) [] ss }
 
 -- the term of that part
-abbrev pub matched_term : ℕ → FunExpr → variables.ClauseNames → OrRefusal Tree
-matched_term at e ns = then_fun (pattern_term ns e) (λ t. within_depth HEAD_DEPTH at t)
+abbrev pub head_part_term : ℕ → FunExpr → variables.ClauseNames → OrRefusal Tree
+head_part_term at e ns = then_fun (pattern_term ns e) (λ t. within_depth HEAD_DEPTH at t)
 
 -- the definition has this head, with these names, or this refusal
 abbrev pub GivesHead : {A : Type 0} → List ℕ → Result (TranslatedHead A) FunFault → OrRefusal Tree → variables.ClauseNames → Type 0

@@ -8,7 +8,7 @@ ghost use Rattle.def_fun.specs.Translation.{head_term as term_of_head};
 ghost use Rattle.tn_fun.specs.Trees.{token_name, fun_expr_seen};
 ghost use Rattle.tn_fun.specs.Clauses.{fun_head_seen};
 ghost use Rattle.tn_translation.specs.Names.{clause_names_seen, variables_of};
-ghost use Rattle.tn_translation.specs.Specifications.{GivesHead, matched_names, matched_term};
+ghost use Rattle.tn_translation.specs.Specifications.{GivesHead, matched_names, head_part_term};
 
 use crate::fault::FunFault;
 use crate::names::ClauseNames;
@@ -30,7 +30,8 @@ pub struct TranslatedHead<A: Allocator> {
 
 /// The token of a variable.
 fn variable_of<A: Allocator>(expr: &Expr<A>) -> Option<Token>
-    ensures name { (text : List ℕ) → option_map (token_name text) result ≡ name_of_variable (fun_expr_seen text expr.now) }
+    ensures name { (text : List ℕ) → option_map (token_name text) result
+        ≡ name_of_variable (fun_expr_seen text expr.now) }
     ensures place { (text : List ℕ) → IfSome result (λ v. v.from ≡ first_byte_of (fun_expr_seen text expr.now)) }
 {
     match expr {
@@ -65,7 +66,7 @@ fn matched_head<A: Allocator + Copy>(
     at: usize,
     part: &Expr<A>,
 ) -> Result<TranslatedHead<A>, FunFault>
-    ensures { GivesHead bytes.now result (matched_term at (fun_expr_seen bytes.now part.now)
+    ensures { GivesHead bytes.now result (head_part_term at (fun_expr_seen bytes.now part.now)
         (matched_names bytes.now whole (variables_of bytes.now part.now)))
         (matched_names bytes.now whole (variables_of bytes.now part.now)) }
 {

@@ -86,7 +86,8 @@ fn variable_pattern<A: Allocator + Copy>(
     token: Token,
 ) -> Result<Term<A>, FunFault>
     ensures term { (ns : NamesOfClause) → Extends (clause_names_seen names.old) (token_name bytes.now token ∷ []) ns
-        → GivesFun tree_of bytes.now result (spec.pattern_term ns (tree.variable token.from (token_name bytes.now token))) }
+        → GivesFun tree_of bytes.now result
+        (spec.pattern_term ns (tree.variable token.from (token_name bytes.now token))) }
     ensures names { OnOk result (clause_names_seen names.new
         ≡ more_names (clause_names_seen names.old) (token_name bytes.now token ∷ [])) }
 {
@@ -106,7 +107,8 @@ fn negative_integer(n: u64) -> Result<i64, AllocError>
 
 /// The term of a `-` and what it is before: an integer alone is a pattern there.
 fn negative_pattern<A: Allocator>(at: usize, pattern: &Expr<A>) -> Result<Term<A>, FunFault>
-    ensures term { (text : List ℕ) → GivesFun tree_of text result (spec.negative_integer at (fun_expr_seen text pattern.now)) }
+    ensures term { (text : List ℕ) → GivesFun tree_of text result
+        (spec.negative_integer at (fun_expr_seen text pattern.now)) }
     ensures names { (text : List ℕ) → OnOk result (variables_of text pattern.now ≡ []) }
 {
     match pattern {
@@ -123,7 +125,8 @@ fn pattern_terms<A: Allocator + Copy>(
     names: &mut ClauseNames<A>,
     items: &Vec<Expr<A>, A>,
 ) -> Result<Vec<Term<A>, A>, FunFault>
-    ensures terms { (ns : NamesOfClause) → Extends (clause_names_seen names.old) (variables_of_each bytes.now items.now.items) ns
+    ensures terms { (ns : NamesOfClause)
+        → Extends (clause_names_seen names.old) (variables_of_each bytes.now items.now.items) ns
         → GivesFun term_row_seen bytes.now result (spec.pattern_terms ns (fun_exprs_seen bytes.now items.now.items)) }
     ensures names { OnOk result (clause_names_seen names.new
         ≡ more_names (clause_names_seen names.old) (variables_of_each bytes.now items.now.items)) }
