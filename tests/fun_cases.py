@@ -172,6 +172,21 @@ REFUSED = (
     ("fun([X]) -> ^'A b'(X) end", "23 no function 'A b'/1"),
 )
 
+# What standard error says of each refusal.
+WORDS = {
+    2: "no fun has this here, or the text ends too soon",
+    3: "this nests too deep",
+    4: "this is past a limit",
+    21: "a match specification has nothing for this",
+    22: "the head doesn't bind this variable; write a value in its place",
+    23: "no such function may be called here; actions are in bodies",
+    24: "this function isn't modelled",
+    25: "an atom of $ and a number is a variable in a head",
+    26: "a tail is a list or a string here",
+    27: "write 0 - X",
+    28: "both parts of the head are this variable",
+}
+
 # The words and symbols that are left out, each where an operand or an operator may be.
 LEFT_OUT_WORDS = "after begin case catch cond else if let maybe of receive try".split()
 LEFT_OUT_SYMBOLS = "<- <= << >> => := :: : ++ -- / || ... .. ?= ? ! # ~ bsl bsr".split()
@@ -180,10 +195,12 @@ LEFT_OUT_SYMBOLS = "<- <= << >> => := :: : ++ -- / || ... .. ?= ? ! # ~ bsl bsr"
 LACKING = (("send", "caller()", 0), ("receive", "caller()", 0), ("receive", "silent(true)", 1), ("receive", "trace([],[])", 2))
 
 
-def specifications():
-    """Funs that have a specification, and what it is."""
+def fun_specifications():
+    """Funs that have a specification, what it is, and that `spec` takes it."""
     for fun, spec in FUNS:
         wants(f"fun {fun}", run(["fun", fun]), 0, f"{spec}\n".encode())
+        tried = run(["spec", "--list", "[a]", spec])
+        check(f"the specification of {fun}", tried.returncode == 0, tried)
     fun, spec = FUNS[0]
     wants("a fun from standard input", run(["fun"], f"{fun}\n".encode()), 0, f"{spec}\n".encode())
     wants("a fun from -", run(["fun", "-"], fun.encode()), 0, f"{spec}\n".encode())
@@ -196,7 +213,9 @@ def fun_refusals():
     for marked, line in REFUSED:
         at, fun = marked.index("^"), marked.replace("^", "")
         ran = run(["fun"], fun.encode())
-        wants(f"fun {marked[:80]}", ran, 2, f"refused {line} at {at}\n".encode())
+        before = fun[:at].split("\n")
+        said = f"fun:{len(before)}:{len(before[-1]) + 1}: {WORDS[int(line.split()[0])]}\n"
+        wants(f"fun {marked[:80]}", ran, 2, f"refused {line} at {at}\n".encode(), said.encode())
     for word in LEFT_OUT_WORDS:
         wants(f"the word {word}", run(["fun", f"fun(_) -> {word} end"]), 2, f"refused 21 no {word} at 10\n".encode())
     for symbol in LEFT_OUT_SYMBOLS:
@@ -212,7 +231,8 @@ def fun_limits():
     """Funs at a limit: at it they have a specification, past it the refusal is that of the limit."""
     longest = "fun(_) -> true end".ljust(TEXT_BYTES)
     wants("the longest fun", run(["fun"], longest.encode()), 0, b"[{'_',[],[true]}]\n")
-    wants("a fun that is too long", run(["fun"], f"{longest} ".encode()), 2, b"refused 1 too long\n")
+    said = b"fun: the text has more than 1048576 bytes\n"
+    wants("a fun that is too long", run(["fun"], f"{longest} ".encode()), 2, b"refused 1 too long\n", said)
     inner = f"{'[' * 28}{']' * 28}"
     wants("the deepest expression", run(["fun", f"fun(_) -> [{inner}] end"]), 0, f"[{{'_',[],[[{inner}]]}}]\n".encode())
     inner = f"{'[' * 30}{']' * 30}"

@@ -1,6 +1,5 @@
-//! The contracts of tn_fun and tn_translation are complete. Each function calls one of their functions
-//! twice on equal values. It knows no more than the contract, so its proof shows that the contract leaves
-//! one answer.
+//! The contracts of tn_fun and tn_translation are complete. Each function calls one of theirs twice on equal
+//! values. It knows no more than the contract, so its proof shows that the contract leaves one answer.
 //!
 //! Depends on def_fun, tn_fun and tn_translation. Promises nothing to other crates.
 #![tactic(auto)]

@@ -34,11 +34,11 @@ fun_refusal_offset (list_with_tail at) = Some at
 fun_refusal_offset (minus_alone at) = Some at
 fun_refusal_offset (whole_head s at) = Some at
 
--- `LINE:COLUMN: ` of an offset
+-- `LINE:COLUMN:` of an offset
 abbrev pub fun_place_text : List ℕ → Option ℕ → List ℕ
 fun_place_text text None = []
-fun_place_text text (Some at) = decimal (place_at text at).line ++ codes ":" ++ decimal (place_at text at).column ++ codes ": "
+fun_place_text text (Some at) = decimal (place_at text at).line ++ codes ":" ++ decimal (place_at text at).column ++ codes ":"
 
--- the line on standard error, without its line feed
+-- the line on standard error, without its line feed: `fun:LINE:COLUMN: ` and the words, or `fun: ` where there is no place
 abbrev pub refusal_notice : List ℕ → FunRefusal → List ℕ
-refusal_notice text r = codes "fun: " ++ fun_place_text text (fun_refusal_offset r) ++ refusal_words r
+refusal_notice text r = codes "fun:" ++ fun_place_text text (fun_refusal_offset r) ++ codes " " ++ refusal_words r

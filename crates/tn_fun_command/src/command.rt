@@ -1,8 +1,9 @@
 // The command `fun`.
+ghost use Rattle.std.specs.Prelude.{◌≡◌};
 ghost use Rattle.std.specs.Process.{exit_status};
 ghost use Rattle.tn_spec.specs.Views.{dialect_of};
 ghost use Rattle.tn_command.specs.Status.{IsStatus};
-ghost use Rattle.tn_fun_command.specs.Ends.{AnswersFun};
+ghost use Rattle.tn_fun_command.specs.Ends.{AnswersFun, status_of_refusal};
 
 use crate::notice::put_notice;
 use std::alloc::{Allocator, Global};
@@ -17,7 +18,9 @@ use tn_text::Watched;
 use tn_translation::{FunFault, fun_answer};
 
 /// The status of an answer.
-fn status_of(refusal: &Option<FunFault>) -> ExitCode {
+fn status_of(refusal: &Option<FunFault>) -> ExitCode
+    ensures { exit_status result ≡ status_of_refusal refusal.now }
+{
     match refusal {
         None => ExitCode::SUCCESS,
         Some(_) => ExitCode::from(REFUSED),
@@ -31,8 +34,9 @@ pub fn answer_fun_over<A: Allocator + Copy, W: Write>(
     text: &[u8],
     dialect: Dialect,
 ) -> JobEnd<Option<FunFault>, RunFault>
-    ensures { AnswersFun (dialect_of dialect) text.now W.contents writer.old writer.new
+    ensures answered { AnswersFun (dialect_of dialect) text.now W.contents writer.old writer.new
         (exit_status result.status) result.answer }
+    ensures status { IsStatus (exit_status result.status) }
 {
     let Ok(answer) = fun_answer(alloc, text, dialect) else {
         return JobEnd {

@@ -66,7 +66,7 @@ fn put_place<A: Allocator>(
     write_decimal(place.line, out)?;
     out.push(b':')?;
     write_decimal(place.column, out)?;
-    out.extend_from_slice(b": ")
+    out.extend_from_slice(b":")
 }
 
 /// The line on standard error of a refusal, without its line feed.
@@ -78,7 +78,8 @@ pub fn put_notice<A: Allocator>(
     ensures { OnOk result ((r : FunRefusal) → fun_fault_seen bytes.now fault ≡ Some r
         → out.new.items ≡ out.old.items ++ refusal_notice bytes.now r) }
 {
-    out.extend_from_slice(b"fun: ")?;
+    out.extend_from_slice(b"fun:")?;
     put_place(bytes, place_of(fault), out)?;
+    out.push(b' ')?;
     out.extend_from_slice(words_of(fault).as_bytes())
 }

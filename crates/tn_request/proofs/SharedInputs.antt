@@ -13,9 +13,9 @@ use Rattle.tn_request.specs.declared.request.TextSource.{TextSource}
 use Rattle.tn_request.specs.declared.request.TextSource.TheVariants.{Specification}
 use Rattle.tn_request.specs.declared.request.ExpectationArgs.{ExpectationArgs}
 use Rattle.tn_request.specs.declared.request.Request.{Request}
-use Rattle.tn_request.specs.declared.request.Request.TheVariants.{Run, Workers, Spec}
+use Rattle.tn_request.specs.declared.request.Request.TheVariants.{Run, Workers, Spec, Fun}
 use Rattle.tn_request.specs.InputsAsked.{input_pair_seen, both_inputs, if_some, first_two, two_of, of_source, text_input, expected_inputs, shared_input}
-use Rattle.tn_request.specs.RequestParts.{script_asked, text_source_asked, spec_text_source, IsRequestExpectation}
+use Rattle.tn_request.specs.RequestParts.{script_asked, text_source_asked, spec_text_source, IsRequestExpectation, IsAnyOutput}
 
 -- ---- of four texts
 
@@ -76,6 +76,12 @@ of_specification (Some path) specification = refl
 of_specification None None = refl
 of_specification None (Some words) = by_test (bytes_eq words.now (codes "-"))
 
+-- nothing is read where nothing is expected
+none_expected : (e : ExpectationArgs) → IsAnyOutput e → first_two (expected_inputs e) ≡ None
+none_expected e is =
+    ap (λ x. first_two (if_some (of_source x the_output) ++ if_some (of_source (option_map (λ words. words.source) e.session) the_listing))) is.output
+    ∙ ap (λ x. first_two (if_some (of_source (option_map (λ words. words.source) x) the_listing))) is.session
+
 -- the texts by the parts of a request are those of the request
 pub texts_by_parts : (r : Request) (e : ExpectationArgs) → IsRequestExpectation r e
     → first_two (if_some (of_source (script_asked r) the_script) ++ if_some (text_input (text_source_asked r)) ++ expected_inputs e) ≡ shared_input r
@@ -86,9 +92,8 @@ texts_by_parts (Workers workers) e is =
     ap (λ x. first_two (x ++ expected_inputs e)) (no_more script)
     ∙ ap (λ x. first_two (script ++ expected_inputs x)) is
 texts_by_parts (Spec trial) e is =
-    ap (λ x. first_two (if_some x ++ expected_inputs e)) (of_specification trial.file trial.specification)
-    ∙ ap (λ x. first_two (if_some (of_source x the_output) ++ if_some (of_source (option_map (λ words. words.source) e.session) the_listing))) is.output
-    ∙ ap (λ x. first_two (if_some (of_source (option_map (λ words. words.source) x) the_listing))) is.session
+    ap (λ x. first_two (if_some x ++ expected_inputs e)) (of_specification trial.file trial.specification) ∙ none_expected e is
+texts_by_parts (Fun fun) e is = ap (λ x. first_two (if_some x ++ expected_inputs e)) (of_specification None fun.text) ∙ none_expected e is
 
 -- the same, by what is seen of the parts
 pub texts_seen : (r : Request) (e : ExpectationArgs) (script : Option Source) (text : Option TextSource) (listing : Option Source) (a b c d : Option code.InputText)

@@ -1,5 +1,5 @@
 // What the command line asks for.
-ghost use Rattle.std.specs.Prelude.{◌≡◌};
+ghost use Rattle.std.specs.Prelude.{◌≡◌, None};
 
 use tn_command::Source;
 use tn_explain::Filter;
