@@ -8,7 +8,10 @@ use tn_fun::Token;
 pub fn token_bytes<'a>(bytes: &'a [u8], token: Token) -> (&'a [u8], &'a [u8])
     ensures { result.0.now ≡ result.1.now }
 {
-    (tn_fun::token_bytes(bytes, token), tn_fun::token_bytes(bytes, token))
+    (
+        tn_fun::token_bytes(bytes, token),
+        tn_fun::token_bytes(bytes, token),
+    )
 }
 
 /// `tn_fun::name_of` has one answer.

@@ -14,8 +14,8 @@ use tn_command::{Source, plain_number, source_of};
 use tn_explain::Filter;
 use tn_picture::PictureFormat;
 use tn_request::{
-    ExpectationArgs, FunArgs, PicksSource, Request, RunRequest, RunSource, SessionArgs, SpecTestArgs,
-    WorkersRequest,
+    ExpectationArgs, FunArgs, PicksSource, Request, RunRequest, RunSource, SessionArgs,
+    SpecTestArgs, WorkersRequest,
 };
 use tn_spec::Dialect;
 
@@ -330,7 +330,9 @@ fn fun<'s, 'a: 's>(matches: &'s ArgMatches<'a>) -> Request<'s>
 }
 
 /// What the command line asks for, by the subcommand that it names; None where it names none.
-pub fn request_of<'s, 'a: 's>(matches: &'s ArgMatches<'a>) -> Result<Option<Request<'s>>, BadNumber<'s>>
+pub fn request_of<'s, 'a: 's>(
+    matches: &'s ArgMatches<'a>,
+) -> Result<Option<Request<'s>>, BadNumber<'s>>
     ensures asks { IfOk result (λ o. IfSome o (IsAskedBy matches.now)) }
     ensures none { IfOk result (λ o. IfNone o (NamesNoCommand matches.now)) }
     ensures refused { IfErr result (λ e. IsWithoutNumber matches.now) }

@@ -36,7 +36,9 @@ pub(crate) fn fun<'a>(alloc: Global) -> Result<Command<'a>, AllocError>
     ensures { IfOk result (IsCommand (codes "fun") FUN_ARGUMENTS) }
 {
     Command::new(alloc, "fun")
-        .about("Prints the match specification of a fun, as dbg:fun2ms/1 has it, or why it has none")
+        .about(
+            "Prints the match specification of a fun, as dbg:fun2ms/1 has it, or why it has none",
+        )
         .arg(fun_event(alloc))?
         .arg(fun_text(alloc))
 }

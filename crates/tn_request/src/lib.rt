@@ -19,8 +19,8 @@ pub use fun_text::fun_text_of;
 pub use job::{RequestJob, RequestOutcome, format_of, job_of};
 pub use output::{ExpectedTexts, expectation_of, expected_texts};
 pub use request::{
-    ExpectationArgs, FunArgs, PicksSource, Request, RunRequest, RunSource, SessionArgs, SpecTestArgs,
-    TextSource, WorkersRequest,
+    ExpectationArgs, FunArgs, PicksSource, Request, RunRequest, RunSource, SessionArgs,
+    SpecTestArgs, TextSource, WorkersRequest,
 };
 pub use schedule::schedule_of;
 pub use trial::spec_input_of;

@@ -117,8 +117,8 @@ on_ok (Ok x) h = h
 on_ok (Err e) h = tt
 
 module _ {A : Type 0} (text : List ℕ) (old ns : ClauseNames) (e : Expr A) (at : ℕ) (es : Vec (Expr A) A) (tail : Boxed (Expr A) A) (is : e ≡ ListOnto at es tail) (v : Vec (Term A) A)
-  (terms : (all : ClauseNames) → Extends old (variables_of_each text es.items) all → pattern_terms all (fun_exprs_seen text es.items) ≡ Ok (term_row_seen v)) (ext : Extends old (variables_of text e) ns)
-  (u : Expr A) (there : u ≡ box_value tail) where
+    (terms : (all : ClauseNames) → Extends old (variables_of_each text es.items) all → pattern_terms all (fun_exprs_seen text es.items) ≡ Ok (term_row_seen v)) (ext : Extends old (variables_of text e) ns)
+    (u : Expr A) (there : u ≡ box_value tail) where
   all_extend : Extends old (variables_of_each text es.items ++ variables_of text u) ns
   all_extend = these_extend text old ns e (tree.list_onto at (fun_exprs_seen text es.items) (fun_expr_seen text u)) (onto_is text e at es tail u is there) ext
 

@@ -56,8 +56,8 @@ fn with_other_guards<A: Allocator + Copy>(
 ) -> Result<SpecSoFar<A>, FunFault>
     ensures { (k : FunClause) → AreSharedParts (dialect_of scope.now.dialect) k shared.now
         → IsConditionScope scope.now k → GivesFun clauses_so_far (text_of scope.now) result
-            (with_alternatives (dialect_of scope.now.dialect) k (clauses_so_far spec)
-                (guards_seen (text_of scope.now) (drop 1 guards.now.items))) }
+        (with_alternatives (dialect_of scope.now.dialect) k (clauses_so_far spec)
+        (guards_seen (text_of scope.now) (drop 1 guards.now.items))) }
 {
     let mut spec = spec;
     for i in 1..guards.len() {

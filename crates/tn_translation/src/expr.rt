@@ -21,7 +21,9 @@ use crate::atoms::{atom_of, integer_of, strings_term};
 use crate::calls::{FunCall, call_of};
 use crate::fault::FunFault;
 use crate::names::{ClauseNames, variable_term};
-use crate::operators::{before_translated, between_translated, integer_value, name_tuple, term_alone};
+use crate::operators::{
+    before_translated, between_translated, integer_value, name_tuple, term_alone,
+};
 use crate::tails::{joined_list, onto_tail, proper_tail};
 use crate::value::{Elements, ExprTerm};
 use std::alloc::{AllocError, Allocator};

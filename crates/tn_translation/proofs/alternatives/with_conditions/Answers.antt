@@ -14,7 +14,7 @@ returns g c = λ text.
     let head = tree_of c.args.shared.now.head in
     let conditions = tree_of_list c.args.conditions in
     let is = c.in_ok-clause.ensures
-        ∙ ap (λ h. triple h (tree_of (ListOf c.args.conditions)) (tree_of c.in_ok-body.body)) c.in_ok-head.ensures
-        ∙ ap (λ l. triple head l (tree_of c.in_ok-body.body)) conditions
-        ∙ ap (λ b. triple head (list_term (term_row_seen c.args.conditions)) b) c.in_ok-body.ensures in
+    ∙ ap (λ h. triple h (tree_of (ListOf c.args.conditions)) (tree_of c.in_ok-body.body)) c.in_ok-head.ensures
+    ∙ ap (λ l. triple head l (tree_of c.in_ok-body.body)) conditions
+    ∙ ap (λ b. triple head (list_term (term_row_seen c.args.conditions)) b) c.in_ok-body.ensures in
     subst (λ t. GivesFun clauses_so_far text c.with_clause.result (within_length c.args.shared.now.at (clauses_so_far c.args.spec ++ t ∷ []))) is (c.with_clause.ensures text)

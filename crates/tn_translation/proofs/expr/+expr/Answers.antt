@@ -20,8 +20,7 @@ use Rattle.tn_translation.proofs.expr.+expr.Goals as goal
 pub exprs_translated-loop-item-preserved : goal.exprs_translated-loop-item-preserved
 exprs_translated-loop-item-preserved g t c =
     let inv = c.loop-item.invariant in
-    let x = translated_seen c.in_ok-element.element in
-    (
+    let x = translated_seen c.in_ok-element.element in (
       inv.0 ++ x ∷ [],
       element_next c.args.scope.now c.deref-item-items.result.now c.loop-item.item-index _ c.item-item.result x inv.0 (omega arith) c.item-item.is c.in_ok-element.ensures inv.1,
       c.in_ok-elements.ensures inv.0 inv.2,
@@ -41,8 +40,7 @@ exprs_translated-returns g t c =
 pub exprs_translated-loop-item-init : goal.exprs_translated-loop-item-init
 exprs_translated-loop-item-init g t c =
     let s = c.args.scope.now in
-    let same : c.deref-item-items.result.now ≡ c.args.items.now.items = search rules in
-    (
+    let same : c.deref-item-items.result.now ≡ c.args.items.now.items = search rules in (
       [],
       none_before (each_translated_in s (fun_exprs_seen (text_of s) c.args.items.now.items)) ∙ ap (λ l. then_fun (each_translated_in s (fun_exprs_seen (text_of s) l)) (λ xs. Ok xs)) (sym same),
       record { terms = search rules; constants = search rules },
