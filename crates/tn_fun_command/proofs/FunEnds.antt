@@ -18,15 +18,15 @@ status_is : (text : List ℕ) (o : Option FunFault) (r : OrRefusal Tree) → Ref
 status_is text None r h = sym (ap status_of_fun h.1)
 status_is text (Some f) r h = sym (ap status_of_fun h.2)
 
-module _ {W : Type 0} (d : Dialect) (text : List ℕ) (gained : W → Option (List ℕ)) (old new : Watched W) (output : List ℕ) (is : output ≡ fun_output d text) (status : ℕ) where
+module _ {W : Type 0} (d : Dialect) (text : List ℕ) (gained : W → Option (List ℕ)) (old new : Watched W) (output : List ℕ) (is : output ≡ fun_output d text) (n : ℕ) where
   -- the fault of a write
   write_fault : (e : RunFault) → has_failed new ≡ true → WroteFront gained old new (fun_output d text) e → IsFunFault gained old new (fun_output d text) e
   write_fault faults.OutOfMemory h k = absurd (let never : faults.OutOfMemory ≡ faults.Write k.0 = k.1 in cc)
   write_fault faults.Read h k = (h, k)
-  write_fault (faults.Write n) h k = (h, k)
+  write_fault (faults.Write taken) h k = (h, k)
 
-  pub answered : (o : Option FunFault) → RefusalIs text o (spec_of_text d text) → status ≡ status_of_refusal o → WroteAll gained old new output → is_flushed new ≡ true → has_failed new ≡ has_failed old
-      → AnswersFun d text gained old new status (Ok o)
+  pub answered : (o : Option FunFault) → RefusalIs text o (spec_of_text d text) → n ≡ status_of_refusal o → WroteAll gained old new output → is_flushed new ≡ true → has_failed new ≡ has_failed old
+      → AnswersFun d text gained old new n (Ok o)
   answered o h s all flushed unfailed = record {
     written = subst (WroteAll gained old new) is all;
     flushed = flushed;
@@ -36,7 +36,7 @@ module _ {W : Type 0} (d : Dialect) (text : List ℕ) (gained : W → Option (Li
     fault = tt;
   }
 
-  pub unanswered : (e : RunFault) → status ≡ FAULT_STATUS → has_failed new ≡ true → WroteFront gained old new output e → AnswersFun d text gained old new status (Err e)
+  pub unanswered : (e : RunFault) → n ≡ FAULT_STATUS → has_failed new ≡ true → WroteFront gained old new output e → AnswersFun d text gained old new n (Err e)
   unanswered e s failed front = record {
     written = tt;
     flushed = tt;

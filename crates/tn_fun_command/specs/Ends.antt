@@ -33,10 +33,10 @@ IsFunFault gained old new output faults.OutOfMemory = new ≡ old
 IsFunFault gained old new output fault = (has_failed new ≡ true) × WroteFront gained old new output fault
 
 -- the answer was written whole and flushed, with status 0, or 2 beside its refusal; or a fault says why not, with status 3
-pub record AnswersFun {W : Type 0} (d : Dialect) (text : List ℕ) (gained : W → Option (List ℕ)) (old new : Watched W) (status : ℕ) (r : Result (Option FunFault) RunFault) : Type 0 where
+pub record AnswersFun {W : Type 0} (d : Dialect) (text : List ℕ) (gained : W → Option (List ℕ)) (old new : Watched W) (n : ℕ) (r : Result (Option FunFault) RunFault) : Type 0 where
   pub written : OnOk r (WroteAll gained old new (fun_output d text))
   pub flushed : OnOk r (is_flushed new ≡ true)
   pub unfailed : OnOk r (has_failed new ≡ has_failed old)
   pub refusal : IfOk r (λ o. RefusalIs text o (spec_of_text d text))
-  pub status : OnOk r (status ≡ status_of_fun (spec_of_text d text))
-  pub fault : IfErr r (λ e. (status ≡ FAULT_STATUS) × IsFunFault gained old new (fun_output d text) e)
+  pub status : OnOk r (n ≡ status_of_fun (spec_of_text d text))
+  pub fault : IfErr r (λ e. (n ≡ FAULT_STATUS) × IsFunFault gained old new (fun_output d text) e)
