@@ -12,7 +12,7 @@ use Rattle.def_spec.specs.Expressions.{for_sends, for_receives, Action}
 use Rattle.def_spec.specs.Reading.{Row, table, found_in, has_action}
 use Rattle.def_session.specs.State.{Session}
 use Rattle.def_session.specs.Commands.{command_done}
-use Rattle.def_explain.specs.Spellings.{action_name}
+use Rattle.def_trap.specs.Actions.{action_name}
 use Rattle.def_explain.specs.SpecReasons.{ExpressionReason, not_in_head, no_variable, no_call, no_function, wrong_count, wrong_place, not_supported, HeadTermReason, no_head, no_head_variable, ShapeReason, no_tuple, element_count, no_conditions, no_body, ClauseReason, of_shape, of_head, of_condition, of_body, SpecReason, no_clauses, at_clause}
 use Rattle.def_explain.specs.CommandReasons.{CommandReason, not_created, exists_already, is_destroyed, no_processes, not_alive, no_how, no_flag_list, no_flag, no_pattern, no_options, no_specification, no_match, no_exported_match, command_reason}
 

@@ -1,6 +1,6 @@
 // The line of a trap.
 ghost use Rattle.std.specs.Prelude.{◌≡◌, ◌++◌, OnOk};
-ghost use Rattle.def_explain.specs.Spellings.{action_name};
+ghost use Rattle.def_trap.specs.Actions.{action_name};
 ghost use Rattle.def_trap.specs.TrapTexts.{body_trap_text, clause_trap_text, matched_text};
 ghost use Rattle.def_trap.specs.TrapTexts.{no_call_text, no_flag_trap_text, trap_text};
 ghost use Rattle.tn_term.specs.Views.{tree_of};

@@ -1,5 +1,5 @@
 use Rattle.std.proofs.Common.{◌∙◌, ◌++◌, ap, codes}
-use Rattle.def_explain.specs.Spellings.{action_name}
+use Rattle.def_trap.specs.Actions.{action_name}
 use Rattle.def_term.specs.Text.{w}
 use Rattle.tn_term.specs.Views.{tree_of}
 use Rattle.tn_spec.specs.Views.{action_of}
