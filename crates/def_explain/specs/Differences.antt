@@ -9,7 +9,7 @@ use Rattle.def_term.specs.Tree.{Tree, pid}
 use Rattle.def_term.specs.Names.{word}
 use Rattle.def_spec.specs.Flags.{Flag, Flags, no_flags, has_all, FlagTable, flags_in, send_flag, receive_flag, call_flag, procs_flag, silent_flag, set_on_spawn, set_on_first_spawn, given_and_kept}
 use Rattle.def_spec.specs.Matching.{Pattern, in_list, no_patterns, Bindings}
-use Rattle.def_spec.specs.Expressions.{Dialect, for_sends, Expr, bound_to, whole_list, all_bound, constant, tuple_of, list_of, call, and_also, or_else, perform, Exprs, no_exprs, and_expr, Context, Effect, silences, changes, flags_by, flags_after}
+use Rattle.def_spec.specs.Expressions.{Dialect, for_calls, for_sends, Expr, bound_to, whole_list, all_bound, constant, tuple_of, list_of, call, and_also, or_else, perform, Exprs, no_exprs, and_expr, Context, Effect, silences, changes, flags_by, flags_after}
 use Rattle.def_node.specs.Process.{FRAMES}
 use Rattle.def_spec.specs.Outcome.{Clause}
 use Rattle.def_session.specs.Settings.{Setting, off, plain, by, setting_for}
