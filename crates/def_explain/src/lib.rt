@@ -155,8 +155,8 @@ pub fn a_nearest_function_is_there()
 {}
 
 /// A command of a run is remarked of exactly where it has a reason, and has the reply of that; the same is remarked by
-/// the picks that moved, and up to the last command; and nothing where no line of the replies begins as one of a command
-/// that isn't done, and no specification of the program's commands has a trap.
+/// the picks that moved, and up to the last command; and nothing where no line of the replies begins as one of a
+/// command that isn't done, and no specification of the program's commands has a trap.
 pub fn a_remark_has_a_reason()
     ensures exactly { RemarkIsOfReason }
     ensures reply { RemarkHasItsReply }
