@@ -42,7 +42,7 @@ def notes_of(script):
 
 
 def examples():
-    """Each example, by the commands in its comments: the listing where one is shown, and an explanation."""
+    """Each example, by the commands in its comments: the listing where one is shown, and an explanation; a trap is in them."""
     for script in sorted(EXAMPLES.glob("*.term")):
         commands = []
         for command, shown in notes_of(script):
@@ -53,8 +53,14 @@ def examples():
             if words[0] == "replay":
                 listings = ran.stdout.decode().partition("== replies\n")[0].splitlines()
                 lines = [line for line in listings if not line.startswith("== session ")] if shown else []
-            remarks = ran.stdout.splitlines().count(b"badarg") if words[0] == "replay" else 0
-            good = ran.returncode == 0 and lines == shown and ran.stderr.count(b" replies badarg: ") == ran.stderr.count(b"\n") == remarks
+            remarks = ran.stderr.decode().splitlines()
+            refusals = [line for line in remarks if " replies badarg: " in line]
+            traps = [line.partition(": clause ")[2] for line in remarks if line not in refusals]
+            good = ran.returncode == 0 and lines == shown and all(trap and f": clause {trap}\n" in script.read_text() for trap in traps)
+            if words[0] == "replay":
+                good = good and len(refusals) == ran.stdout.splitlines().count(b"badarg")
+            else:
+                good = good and not remarks
             check(f"{words[0]} of example {script.stem}", good, ran)
         check(f"the commands of example {script.stem}", commands == ["replay", "explain"], commands)
 

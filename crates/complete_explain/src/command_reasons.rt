@@ -44,6 +44,20 @@ pub fn command_reason<'a, A: Allocator + Copy>(
     )
 }
 
+/// `tn_command_reason::has_trap` has one answer.
+pub fn has_trap<A: Allocator + Copy>(
+    alloc: A,
+    functions: &[Function<A>],
+    command: &Command<A>,
+) -> (Result<bool, AllocError>, Result<bool, AllocError>)
+    ensures { IfOk result.0 (λ x. IfOk result.1 (λ y. x ≡ y)) }
+{
+    (
+        tn_command_reason::has_trap(alloc, functions, command),
+        tn_command_reason::has_trap(alloc, functions, command),
+    )
+}
+
 /// `tn_command_reason::put_reason_after_reply` leaves one text. After refused memory the text that was there is still a
 /// front of it.
 pub fn put_reason_after_reply<A: Allocator, B: Allocator>(

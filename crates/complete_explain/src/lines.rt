@@ -43,7 +43,7 @@ pub fn event<A: Allocator + Copy>(
 }
 
 /// A reply to a command, and why it is this one.
-#[derive_where(Clone, Copy)]
+#[derive(Drop)]
 pub struct SessionReply<'a, A: Allocator> {
     pub reply: &'a Term<A>,
     pub why: Option<CommandReason<'a, A>>,

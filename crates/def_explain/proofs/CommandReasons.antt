@@ -1,5 +1,5 @@
 -- Why a command is refused is what is computed, and has the reply.
-use Rattle.std.proofs.Common.{◌≡◌, ◌≢◌, ◌↔◌, ◌⊎◌, inl, inr, ℕ, ◌==◌, ◌||◌, Bool, true, false, Option, Some, None, refl, sym, ap, ◌∙◌, subst, if◌then◌else◌, eqb-true, eq-eqb}
+use Rattle.std.proofs.Common.{◌≡◌, ◌≢◌, ◌↔◌, ◌⊎◌, inl, inr, ℕ, ◌==◌, ◌||◌, Bool, true, false, List, [], ◌∷◌, Option, Some, None, refl, sym, ap, ◌∙◌, subst, if◌then◌else◌, eqb-true, eq-eqb}
 use Rattle.std.specs.Prelude.{Ok, Err}
 use Rattle.std.specs.Option.{option_map, option_or}
 use Rattle.def_term.specs.Tree.{Tree, int, atom, pid, tuple, list, Trees, none, more, elements}
@@ -15,8 +15,9 @@ use Rattle.def_spec.specs.Reading.{SpecFault, badarg, unsupported, Reads, then_r
 use Rattle.def_session.specs.Settings.{FunctionPattern, Setting, off, plain, by, setting_of, trace_pattern_of, options_of}
 use Rattle.def_session.specs.State.{Phase, absent, live, destroyed, Session, flags_at, with_flags}
 use Rattle.def_session.specs.Commands.{number_term, fault_term, Procs, one_process, existing, new_processes, all_processes, procs_of, how_of, changed_flags, refuse, flags_set, flags_set_if, matching_count, function_set, function_set_if, send_set, receive_set, done_live, done_absent, done_destroyed, done_in, command_done}
+use Rattle.def_trap.specs.Traps.{Trap, first_trap}
 use Rattle.def_explain.specs.SpecReasons.{SpecReason, reason_fault, IsSpecReason, first_reason, spec_reason}
-use Rattle.def_explain.specs.CommandReasons.{CommandReason, not_created, exists_already, is_destroyed, no_processes, not_alive, no_how, no_flag_list, no_flag, no_pattern, no_options, no_specification, no_match, no_exported_match, reply_of, refuses, IsTaken, SetsProcesses, SetsBy, IsNoFlag, any_setting, MatchNone, SetsPattern, IsLiveReason, IsCommandReason, reason_where_none, other_than_flag, flags_reason, life_reason, processes_reason, setting_reason, no_match_reason, match_reason, function_reason, live_reason, absent_reason, destroyed_reason, reason_in, command_reason}
+use Rattle.def_explain.specs.CommandReasons.{CommandReason, not_created, exists_already, is_destroyed, no_processes, not_alive, no_how, no_flag_list, no_flag, no_pattern, no_options, no_specification, no_match, no_exported_match, has_trap, reply_of, refuses, IsTaken, SetsProcesses, SetsBy, IsNoFlag, any_setting, MatchNone, SetsPattern, SetsSpec, matching_arities, IsLiveReason, IsCommandReason, reason_where_none, other_than_flag, flags_reason, life_reason, processes_reason, setting_reason, no_match_reason, match_reason, function_reason, clauses_read, spec_trap, function_trap, trap_reason, live_failure, live_reason, absent_reason, destroyed_reason, reason_in, command_reason}
 use Rattle.def_explain.specs.NearestFunctions.{nearest_function}
 use Rattle.def_explain.specs.ReasonLaws.{CommandReasonIsComputed, ReplyIsOfReason, FaultHasReason, ZeroHasReason, RefusalChangesNothing}
 use Rattle.def_explain.proofs.SpecReasons.{is_so, none-some, map-none, map-some, first-sound, first-complete, spec_fault_has_reason, spec_reason_is_computed}
@@ -278,15 +279,15 @@ module _ (o : Exports) (s : Session) where
       pattern-first (inl h) = let w : (trace_pattern_of mfa ≡ None) × (no_pattern mfa ≡ r) = where-some (no_pattern mfa) r (trace_pattern_of mfa) h in subst Here w.1 (spec, options, (name, refl), w.0)
       pattern-first (inr h) = options-first (where-none (no_pattern mfa) (trace_pattern_of mfa) h.0) (or-some (of_options options) (behind_options o mfa spec options) r h.1)
 
-  live-sound : (c : Command) (r : CommandReason) → live_reason o s c ≡ Some r → IsLiveReason o s c r
-  live-sound (create name tracer) r e = subst (IsLiveReason o s (create name tracer)) (is_so exists_already r e) (name, tracer, refl)
-  live-sound (destroy name) r e = absurd (none-some r e)
-  live-sound (set_processes name procs how flags) r e = processes-sound name procs how flags r e
-  live-sound (set_function name mfa spec options) r e = function-sound name mfa spec options r e
-  live-sound (set_send name spec) r e =
+  failure-sound : (c : Command) (r : CommandReason) → live_failure o s c ≡ Some r → IsLiveReason o s c r
+  failure-sound (create name tracer) r e = subst (IsLiveReason o s (create name tracer)) (is_so exists_already r e) (name, tracer, refl)
+  failure-sound (destroy name) r e = absurd (none-some r e)
+  failure-sound (set_processes name procs how flags) r e = processes-sound name procs how flags r e
+  failure-sound (set_function name mfa spec options) r e = function-sound name mfa spec options r e
+  failure-sound (set_send name spec) r e =
       let x : (q : SpecReason) × (no_specification q ≡ r) × (setting_of for_sends spec ≡ Err (reason_fault q)) × IsSpecReason for_sends spec q = setting-sound for_sends spec r e in
       subst (IsLiveReason o s (set_send name spec)) x.1 (for_sends, spec, (name, refl), x.2, x.3)
-  live-sound (set_receive name spec) r e =
+  failure-sound (set_receive name spec) r e =
       let x : (q : SpecReason) × (no_specification q ≡ r) × (setting_of for_receives spec ≡ Err (reason_fault q)) × IsSpecReason for_receives spec q = setting-sound for_receives spec r e in
       subst (IsLiveReason o s (set_receive name spec)) x.1 (for_receives, spec, (name, refl), x.2, x.3)
 
@@ -310,13 +311,13 @@ module _ (o : Exports) (s : Session) where
   not-list (tuple ts) h = refl
   not-list (list ts) h = absurd (h ts refl)
 
-  by-specification : (c : Command) (d : Dialect) (t : Tree) (q : SpecReason) → SetsBy c d t → setting_reason d t ≡ Some (no_specification q) → live_reason o s c ≡ Some (no_specification q)
+  by-specification : (c : Command) (d : Dialect) (t : Tree) (q : SpecReason) → SetsBy c d t → setting_reason d t ≡ Some (no_specification q) → live_failure o s c ≡ Some (no_specification q)
   by-specification c for_calls t q b e =
-      ap (live_reason o s) b.2.1
+      ap (live_failure o s) b.2.1
       ∙ past-options b.0 t b.1 b.3 b.4
       ∙ or-first (setting_reason for_calls t) (match_reason o (trace_pattern_of b.0) (options_of b.1)) (no_specification q) e
-  by-specification c for_sends t q b e = ap (live_reason o s) b.1 ∙ e
-  by-specification c for_receives t q b e = ap (live_reason o s) b.1 ∙ e
+  by-specification c for_sends t q b e = ap (live_failure o s) b.1 ∙ e
+  by-specification c for_receives t q b e = ap (live_failure o s) b.1 ∙ e
 
   zero_is : (n : ℕ) → n ≡ 0 → (n == 0) ≡ true
   zero_is n e = eq-eqb n 0 e
@@ -328,43 +329,143 @@ module _ (o : Exports) (s : Session) where
       go true e = absurd (h (eqb-true n 0 e))
       go false e = e
 
-  by-match : (c : Command) (covered : FunctionPattern) (local : Bool) → SetsPattern c covered local → MatchNone o covered local → live_reason o s c ≡ Some (no_match_reason o covered)
+  by-match : (c : Command) (covered : FunctionPattern) (local : Bool) → SetsPattern c covered local → MatchNone o covered local → live_failure o s c ≡ Some (no_match_reason o covered)
   by-match c covered local h m =
-      ap (live_reason o s) h.4.1
+      ap (live_failure o s) h.4.1
       ∙ past-options h.0 h.1 h.2 (covered, h.5) (local, h.6)
       ∙ or-second (setting_reason for_calls h.1) (match_reason o (trace_pattern_of h.0) (options_of h.2)) (none-setting for_calls h.1 h.3 h.7)
       ∙ ap (λ x. match_reason o x (options_of h.2)) h.5
       ∙ ap (match_reason o (Some covered)) h.6
       ∙ ap (λ b. if b then Some (no_match_reason o covered) else None) (zero_is (matching_count o (any_setting covered local)) m)
 
-  live-complete : (c : Command) (r : CommandReason) → IsLiveReason o s c r → live_reason o s c ≡ Some r
-  live-complete c not_created h = absurd h
-  live-complete c exists_already h = ap (live_reason o s) h.2
-  live-complete c is_destroyed h = absurd h
-  live-complete c (no_processes t) h = ap (live_reason o s) h.2.1 ∙ or-first (of_procs t) _ (no_processes t) (ap (reason_where_none (no_processes t)) h.3)
-  live-complete c (not_alive n) h =
-      ap (live_reason o s) h.2.1
+  -- a reason other than a trap
+  abbrev IsFailure : Command → CommandReason → Type 0
+  IsFailure c (has_trap count before d t) = Unit {0}
+  IsFailure c r = live_failure o s c ≡ Some r
+
+  failure-complete : (c : Command) (r : CommandReason) → IsLiveReason o s c r → IsFailure c r
+  failure-complete c not_created h = absurd h
+  failure-complete c exists_already h = ap (live_failure o s) h.2
+  failure-complete c is_destroyed h = absurd h
+  failure-complete c (no_processes t) h = ap (live_failure o s) h.2.1 ∙ or-first (of_procs t) _ (no_processes t) (ap (reason_where_none (no_processes t)) h.3)
+  failure-complete c (not_alive n) h =
+      ap (live_failure o s) h.2.1
       ∙ past-how (pid n) h.0 h.1 (one_process n, refl) h.3
       ∙ or-second (flags_reason h.1) (life_reason s (pid n)) (read-flags h.1 h.4)
       ∙ ap (λ b. if b then None else Some (not_alive n)) h.5
-  live-complete c (no_how t) h =
-      ap (live_reason o s) h.2.1 ∙ past-procs h.0 t h.1 h.3
+  failure-complete c (no_how t) h =
+      ap (live_failure o s) h.2.1 ∙ past-procs h.0 t h.1 h.3
       ∙ or-first (of_how t) (option_or (flags_reason h.1) (life_reason s h.0)) (no_how t) (ap (reason_where_none (no_how t)) h.4)
-  live-complete c (no_flag_list t) h = ap (live_reason o s) h.2.1 ∙ past-how h.0 h.1 t h.3 h.4 ∙ or-first (flags_reason t) (life_reason s h.0) (no_flag_list t) (not-list t h.5)
-  live-complete c (no_flag t) h =
-      ap (live_reason o s) h.3.1 ∙ past-how h.0 h.1 (list h.2) h.4 h.5
+  failure-complete c (no_flag_list t) h = ap (live_failure o s) h.2.1 ∙ past-how h.0 h.1 t h.3 h.4 ∙ or-first (flags_reason t) (life_reason s h.0) (no_flag_list t) (not-list t h.5)
+  failure-complete c (no_flag t) h =
+      ap (live_failure o s) h.3.1 ∙ past-how h.0 h.1 (list h.2) h.4 h.5
       ∙ or-first (flags_reason (list h.2)) (life_reason s h.0) (no_flag t) (ap (option_map no_flag) (first-complete other_than_flag IsNoFlag flag-same (elements h.2) t h.6))
-  live-complete c (no_pattern t) h = ap (live_reason o s) h.2.1 ∙ or-first (of_pattern t) _ (no_pattern t) (ap (reason_where_none (no_pattern t)) h.3)
-  live-complete c (no_options t) h =
-      ap (live_reason o s) h.2.1
+  failure-complete c (no_pattern t) h = ap (live_failure o s) h.2.1 ∙ or-first (of_pattern t) _ (no_pattern t) (ap (reason_where_none (no_pattern t)) h.3)
+  failure-complete c (no_options t) h =
+      ap (live_failure o s) h.2.1
       ∙ or-second (of_pattern h.0) _ (where-read (no_pattern h.0) (trace_pattern_of h.0) h.3)
       ∙ or-first (of_options t) _ (no_options t) (ap (reason_where_none (no_options t)) h.4)
-  live-complete c (no_specification r) h = by-specification c h.0 h.1 r h.2 (setting-complete h.0 h.1 r h.3 h.4)
-  live-complete c (no_match near) h =
+  failure-complete c (no_specification r) h = by-specification c h.0 h.1 r h.2 (setting-complete h.0 h.1 r h.3 h.4)
+  failure-complete c (no_match near) h =
       by-match c h.0 h.1 h.2 h.3
       ∙ ap (λ b. Some (if b then no_match (nearest_function h.0 o.functions) else no_exported_match)) (zero_is (matching_count o (any_setting h.0 true)) h.4)
       ∙ ap (λ f. Some (no_match f)) (sym h.5)
-  live-complete c no_exported_match h = by-match c h.0 false h.1 h.2 ∙ ap (λ b. Some (if b then no_match (nearest_function h.0 o.functions) else no_exported_match)) (no_zero (matching_count o (any_setting h.0 true)) h.3)
+  failure-complete c no_exported_match h = by-match c h.0 false h.1 h.2 ∙ ap (λ b. Some (if b then no_match (nearest_function h.0 o.functions) else no_exported_match)) (no_zero (matching_count o (any_setting h.0 true)) h.3)
+  failure-complete c (has_trap count before d t) h = tt
+
+  -- ---- traps
+
+  -- a specification that has a trap is read
+  by-trap : (d : Dialect) (lengths : List ℕ) (q : Reads Setting) (x : ℕ × Trap) → first_trap d lengths (clauses_read q) ≡ Some x → (k : Spec) × (q ≡ Ok (by k)) × (first_trap d lengths k.clauses ≡ Some x)
+  by-trap d lengths (Err e) x h = absurd (none-some x h)
+  by-trap d lengths (Ok off) x h = absurd (none-some x h)
+  by-trap d lengths (Ok plain) x h = absurd (none-some x h)
+  by-trap d lengths (Ok (by k)) x h = (k, refl, h)
+
+  spec-trap-sound : (count : ℕ) (d : Dialect) (lengths : List ℕ) (spec : Tree) (r : CommandReason) → spec_trap count d lengths spec ≡ Some r
+      → (x : ℕ × Trap) × (k : Spec) × (has_trap count x.0 d x.1 ≡ r) × (setting_of d spec ≡ Ok (by k)) × (first_trap d lengths k.clauses ≡ Some x)
+  spec-trap-sound count d lengths spec r e =
+      let m : (x : ℕ × Trap) × (first_trap d lengths (clauses_read (setting_of d spec)) ≡ Some x) × (has_trap count x.0 d x.1 ≡ r) = map-some (λ (t : ℕ × Trap). has_trap count t.0 d t.1) (first_trap d lengths (clauses_read (setting_of d spec))) r e in
+      let k : (y : Spec) × (setting_of d spec ≡ Ok (by y)) × (first_trap d lengths y.clauses ≡ Some m.0) = by-trap d lengths (setting_of d spec) m.0 m.1 in
+      (m.0, k.0, m.2, k.1, k.2)
+
+  other-than-zero : (n : ℕ) (r : CommandReason) → (if n == 0 then Some r else None) ≡ None → n ≢ 0
+  other-than-zero n r e h = none-some r (sym e ∙ ap (λ b. if b then Some r else None) (eq-eqb n 0 h))
+
+  function-trap-sound : (name : Name) (mfa spec options : Tree) (r : CommandReason) → function_reason o mfa spec options ≡ None
+      → function_trap o spec (trace_pattern_of mfa) (options_of options) ≡ Some r → IsLiveReason o s (set_function name mfa spec options) r
+  function-trap-sound name mfa spec options r e t =
+      let a : (of_pattern mfa ≡ None) × (behind_pattern o mfa spec options ≡ None) = or-none-both (of_pattern mfa) _ e in
+      let b : (of_options options ≡ None) × (behind_options o mfa spec options ≡ None) = or-none-both (of_options options) _ a.1 in
+      let c : (setting_reason for_calls spec ≡ None) × (match_reason o (trace_pattern_of mfa) (options_of options) ≡ None) = or-none-both (setting_reason for_calls spec) _ b.1 in
+      let p : IsTaken (trace_pattern_of mfa) = where-none (no_pattern mfa) (trace_pattern_of mfa) a.0 in
+      let q : IsTaken (options_of options) = where-none (no_options options) (options_of options) b.0 in
+      let m : match_reason o (Some p.0) (Some q.0) ≡ None = ap (λ x. match_reason o x (Some q.0)) (sym p.1) ∙ ap (match_reason o (trace_pattern_of mfa)) (sym q.1) ∙ c.1 in
+      let f : function_trap o spec (Some p.0) (Some q.0) ≡ Some r = ap (λ x. function_trap o spec x (Some q.0)) (sym p.1) ∙ ap (function_trap o spec (trace_pattern_of mfa)) (sym q.1) ∙ t in
+      let n = matching_count o (any_setting p.0 q.0) in
+      let lengths = matching_arities o p.0 q.0 in
+      let x = spec-trap-sound n for_calls lengths spec r f in
+      subst (IsLiveReason o s (set_function name mfa spec options)) x.2
+      (x.1, lengths, (p.0, q.0, mfa, spec, options, (name, refl), p.1, q.1, x.3, other-than-zero n (no_match_reason o p.0) m, refl, refl), x.4)
+
+  trap-sound : (c : Command) (r : CommandReason) → live_failure o s c ≡ None → trap_reason o c ≡ Some r → IsLiveReason o s c r
+  trap-sound (create name tracer) r n e = absurd (none-some r e)
+  trap-sound (destroy name) r n e = absurd (none-some r e)
+  trap-sound (set_processes name procs how flags) r n e = absurd (none-some r e)
+  trap-sound (set_function name mfa spec options) r n e = function-trap-sound name mfa spec options r n e
+  trap-sound (set_send name spec) r n e =
+      let x = spec-trap-sound 1 for_sends (2 ∷ []) spec r e in
+      subst (IsLiveReason o s (set_send name spec)) x.2 (x.1, 2 ∷ [], (name, spec, refl, x.3, refl, refl), x.4)
+  trap-sound (set_receive name spec) r n e =
+      let x = spec-trap-sound 1 for_receives (3 ∷ []) spec r e in
+      subst (IsLiveReason o s (set_receive name spec)) x.2 (x.1, 3 ∷ [], (name, spec, refl, x.3, refl, refl), x.4)
+
+  live-sound : (c : Command) (r : CommandReason) → live_reason o s c ≡ Some r → IsLiveReason o s c r
+  live-sound c r e = go (or-some (live_failure o s c) (trap_reason o c) r e)
+    where
+      go : (live_failure o s c ≡ Some r) ⊎ ((live_failure o s c ≡ None) × (trap_reason o c ≡ Some r)) → IsLiveReason o s c r
+      go (inl h) = failure-sound c r h
+      go (inr h) = trap-sound c r h.0 h.1
+
+  -- a command that is done and has a trap doesn't fail
+  no-failure : (c : Command) (d : Dialect) (k : Spec) (count : ℕ) (lengths : List ℕ) → SetsSpec o c d k count lengths → live_failure o s c ≡ None
+  no-failure c for_calls k count lengths h =
+      ap (live_failure o s) h.5.1
+      ∙ past-options h.2 h.3 h.4 (h.0, h.6) (h.1, h.7)
+      ∙ or-second (setting_reason for_calls h.3) (match_reason o (trace_pattern_of h.2) (options_of h.4)) (none-setting for_calls h.3 (by k) h.8)
+      ∙ ap (λ x. match_reason o x (options_of h.4)) h.6
+      ∙ ap (match_reason o (Some h.0)) h.7
+      ∙ ap (λ b. if b then Some (no_match_reason o h.0) else None) (no_zero (matching_count o (any_setting h.0 h.1)) h.9)
+  no-failure c for_sends k count lengths h = ap (live_failure o s) h.2 ∙ none-setting for_sends h.1 (by k) h.3
+  no-failure c for_receives k count lengths h = ap (live_failure o s) h.2 ∙ none-setting for_receives h.1 (by k) h.3
+
+  spec-trap-there : (count : ℕ) (d : Dialect) (lengths : List ℕ) (spec : Tree) (k : Spec) (before : ℕ) (t : Trap) → setting_of d spec ≡ Ok (by k) → first_trap d lengths k.clauses ≡ Some (before, t)
+      → spec_trap count d lengths spec ≡ Some (has_trap count before d t)
+  spec-trap-there count d lengths spec k before t g f =
+      ap (option_map (λ (x : ℕ × Trap). has_trap count x.0 d x.1)) (ap (λ q. first_trap d lengths (clauses_read q)) g ∙ f)
+
+  trap-there : (c : Command) (count before : ℕ) (d : Dialect) (t : Trap) → IsLiveReason o s c (has_trap count before d t) → trap_reason o c ≡ Some (has_trap count before d t)
+  trap-there c count before for_calls t h =
+      let b = h.2 in
+      ap (trap_reason o) b.5.1
+      ∙ ap (λ x. function_trap o b.3 x (options_of b.4)) b.6
+      ∙ ap (function_trap o b.3 (Some b.0)) b.7
+      ∙ spec-trap-there (matching_count o (any_setting b.0 b.1)) for_calls (matching_arities o b.0 b.1) b.3 h.0 before t b.8 (ap (λ l. first_trap for_calls l h.0.clauses) (sym b.11) ∙ h.3)
+      ∙ ap (λ n. Some (has_trap n before for_calls t)) (sym b.10)
+  trap-there c count before for_sends t h =
+      let b = h.2 in
+      ap (trap_reason o) b.2
+      ∙ spec-trap-there 1 for_sends (2 ∷ []) b.1 h.0 before t b.3 (ap (λ l. first_trap for_sends l h.0.clauses) (sym b.5) ∙ h.3)
+      ∙ ap (λ n. Some (has_trap n before for_sends t)) (sym b.4)
+  trap-there c count before for_receives t h =
+      let b = h.2 in
+      ap (trap_reason o) b.2
+      ∙ spec-trap-there 1 for_receives (3 ∷ []) b.1 h.0 before t b.3 (ap (λ l. first_trap for_receives l h.0.clauses) (sym b.5) ∙ h.3)
+      ∙ ap (λ n. Some (has_trap n before for_receives t)) (sym b.4)
+
+  live-complete : (c : Command) (r : CommandReason) → IsLiveReason o s c r → live_reason o s c ≡ Some r
+  live-complete c (has_trap count before d t) h = or-second (live_failure o s c) (trap_reason o c) (no-failure c d h.0 count h.1 h.2) ∙ trap-there c count before d t h
+  live-complete c r h = or-first (live_failure o s c) (trap_reason o c) r (failure-complete c r h)
 
 -- ---- any command
 
@@ -417,6 +518,11 @@ command-complete : (o : Exports) (s : Session) (c : Command) (r : CommandReason)
 command-complete o s c not_created h = ap (λ p. reason_in p o s c) h.0 ∙ absent-complete c h.1
 command-complete o s c is_destroyed h = ap (λ p. reason_in p o s c) h.0 ∙ destroyed-complete c h.1
 command-complete o s c r h = ap (λ p. reason_in p o s c) h.0 ∙ live-complete o s c r h.1
+
+-- the trap of a command is one whatever the session is
+pub trap_is_of_command : (o : Exports) (s : Session) (c : Command) (count before : ℕ) (d : Dialect) (t : Trap) → command_reason o s c ≡ Some (has_trap count before d t)
+    → trap_reason o c ≡ Some (has_trap count before d t)
+trap_is_of_command o s c count before d t e = trap-there o s c count before d t (command-sound o s c (has_trap count before d t) e).1
 
 pub command_reason_is_computed : CommandReasonIsComputed
 command_reason_is_computed o s c r = (command-sound o s c r, command-complete o s c r)
@@ -474,6 +580,7 @@ module _ (o : Exports) (s : Session) where
   live-refusal c (no_specification r) h k = specification-done c h.0 h.1 (reason_fault r) h.2 h.3
   live-refusal c (no_match near) h k = absurd (cc k)
   live-refusal c no_exported_match h k = absurd (cc k)
+  live-refusal c (has_trap count before d t) h k = absurd (cc k)
 
   -- a function command that is done
   pattern-done : (c : Command) (covered : FunctionPattern) (local : Bool) → SetsPattern c covered local → (done_live o s c).1 ≡ number_term (matching_count o (any_setting covered local))
@@ -482,6 +589,12 @@ module _ (o : Exports) (s : Session) where
       ∙ ap (λ p. function_set_if o s p (options_of h.2) h.1) h.5
       ∙ ap (λ q. function_set_if o s (Some covered) q h.1) h.6
       ∙ ap (function_set o s covered local) h.7)
+
+  -- a command that is done and has a trap
+  trap-done : (c : Command) (d : Dialect) (k : Spec) (count : ℕ) (lengths : List ℕ) → SetsSpec o c d k count lengths → (done_live o s c).1 ≡ number_term count
+  trap-done c for_calls k count lengths h = pattern-done c h.0 h.1 (h.2, h.3, h.4, by k, h.5, h.6, h.7, h.8) ∙ ap number_term (sym h.10)
+  trap-done c for_sends k count lengths h = ap (λ x. (done_live o s x).1) h.2 ∙ ap (λ r. (send_set s r).1) h.3 ∙ ap number_term (sym h.4)
+  trap-done c for_receives k count lengths h = ap (λ x. (done_live o s x).1) h.2 ∙ ap (λ r. (receive_set s r).1) h.3 ∙ ap number_term (sym h.4)
 
   absent-refusal : (c : Command) → ((name tracer : Name) → c ≢ create name tracer) → done_absent s c ≡ refuse s
   absent-refusal (create name tracer) h = absurd (h name tracer refl)
@@ -508,6 +621,7 @@ module _ (o : Exports) (s : Session) where
   has-reply : (c : Command) (r : CommandReason) → IsCommandReason o s c r → (command_done o s c).1 ≡ reply_of r
   has-reply c (no_match near) h = ap (λ p. (done_in p o s c).1) h.0 ∙ pattern-done c h.1.0 h.1.1 h.1.2 ∙ ap number_term h.1.3
   has-reply c no_exported_match h = ap (λ p. (done_in p o s c).1) h.0 ∙ pattern-done c h.1.0 false h.1.1 ∙ ap number_term h.1.2
+  has-reply c (has_trap count before d t) h = ap (λ p. (done_in p o s c).1) h.0 ∙ trap-done c d h.1.0 count h.1.1 h.1.2
   has-reply c r h = ap (λ x. x.1) (refusal-is c r h refl)
 
 pub reply_is_of_reason : ReplyIsOfReason
@@ -593,21 +707,24 @@ module _ (o : Exports) (s : Session) where
       )
 
   -- no fault is replied where there is no reason
-  live-no-fault : (c : Command) (e : SpecFault) → live_reason o s c ≡ None → (done_live o s c).1 ≡ fault_term e → ⊥
-  live-no-fault (create name tracer) e n h = cc n
-  live-no-fault (destroy name) e n h = other-word e h
-  live-no-fault (set_processes name procs how flags) e n h =
+  failure-no-fault : (c : Command) (e : SpecFault) → live_failure o s c ≡ None → (done_live o s c).1 ≡ fault_term e → ⊥
+  failure-no-fault (create name tracer) e n h = cc n
+  failure-no-fault (destroy name) e n h = other-word e h
+  failure-no-fault (set_processes name procs how flags) e n h =
       let x : (m : ℕ) × ((flags_set_if s (procs_of procs) (how_of how) (flags_listed flags)).1 ≡ number_term m) = processes-number procs how flags n in
       number-no-fault x.0 e (sym x.1 ∙ h)
-  live-no-fault (set_function name mfa spec options) e n h =
+  failure-no-fault (set_function name mfa spec options) e n h =
       let x : (m : ℕ) × ((function_set_if o s (trace_pattern_of mfa) (options_of options) spec).1 ≡ number_term m) × (m ≢ 0) = function-number mfa spec options n in
       number-no-fault x.0 e (sym x.1 ∙ h)
-  live-no-fault (set_send name spec) e n h =
+  failure-no-fault (set_send name spec) e n h =
       let k : (x : Setting) × (setting_of for_sends spec ≡ Ok x) = setting-none for_sends spec n in
       number-no-fault 1 e (ap (λ x. (send_set s x).1) (sym k.1) ∙ h)
-  live-no-fault (set_receive name spec) e n h =
+  failure-no-fault (set_receive name spec) e n h =
       let k : (x : Setting) × (setting_of for_receives spec ≡ Ok x) = setting-none for_receives spec n in
       number-no-fault 1 e (ap (λ x. (receive_set s x).1) (sym k.1) ∙ h)
+
+  live-no-fault : (c : Command) (e : SpecFault) → live_reason o s c ≡ None → (done_live o s c).1 ≡ fault_term e → ⊥
+  live-no-fault c e n h = failure-no-fault c e (or-none-both (live_failure o s c) (trap_reason o c) n).0 h
 
   absent-no-fault : (c : Command) (e : SpecFault) → absent_reason c ≡ None → (done_absent s c).1 ≡ fault_term e → ⊥
   absent-no-fault (create name tracer) e n h = session-no-fault name e h
@@ -636,7 +753,7 @@ module _ (o : Exports) (s : Session) where
   no-zero : (p : Phase) (name : Name) (mfa spec options : Tree) → reason_in p o s (set_function name mfa spec options) ≡ None → (done_in p o s (set_function name mfa spec options)).1 ≡ number_term 0 → ⊥
   no-zero absent name mfa spec options n h = cc n
   no-zero live name mfa spec options n h =
-      let x : (m : ℕ) × ((function_set_if o s (trace_pattern_of mfa) (options_of options) spec).1 ≡ number_term m) × (m ≢ 0) = function-number mfa spec options n in
+      let x : (m : ℕ) × ((function_set_if o s (trace_pattern_of mfa) (options_of options) spec).1 ≡ number_term m) × (m ≢ 0) = function-number mfa spec options (or-none-both (function_reason o mfa spec options) _ n).0 in
       x.2 (same-number x.0 0 (sym x.1 ∙ h))
   no-zero destroyed name mfa spec options n h = cc n
 

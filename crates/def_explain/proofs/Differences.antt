@@ -19,7 +19,8 @@ use Rattle.def_session.specs.State.{MarkKind, for_returns, for_exceptions, Sessi
 use Rattle.def_session.specs.Session.{inherit, effects_of, reported_for, mark_asked, is_for_exceptions, is_marked_for_exceptions}
 use Rattle.def_session.specs.Messages.{last_message}
 use Rattle.def_explain.specs.Causes.{is_false_message}
-use Rattle.def_explain.specs.Differences.{Difference, node_ends, reads_freed, suppresses_message, leaves_no_mark, ignores_silent, reports_exceptions, inherits_alone, evaluates_from_right, reads_no_list, faults_in_logic, leaves_other_setting, takes_local_setting, ends_test, catches_error, reports_attempt, raises_noproc, reports_later, adds_calls, HasFlags, attempt_flag, StepDiffers, is_traced, has_that_flag, is_attempt_by, step_differs, CallsAction, OneCallsAction, TwoCallActions, ShowsOrder, OneShowsOrder, calls_action, one_calls_action, two_call_actions, shows_order, one_shows_order, HasWholeList, OneHasWholeList, HasListOfNone, ReadsNoList, has_whole_list, one_has_whole_list, is_list_of_none, has_list_of_none, HasNone, has_none, hands_on, handed_on, HasFlagBeside, has_other, LosesLastFlag, loses_last_flag, GivesFlag, gives_flag, GetsFlagAgain, gets_flag_again, NamesFlag, names_flag, sets_silent, SilencesWithoutFlags, silences_without_flags, is_of_sends, is_of_calls, has_mark_below, difference_where}
+use Rattle.def_trap.specs.Actions.{is_of_calls}
+use Rattle.def_explain.specs.Differences.{Difference, node_ends, reads_freed, suppresses_message, leaves_no_mark, ignores_silent, reports_exceptions, inherits_alone, evaluates_from_right, reads_no_list, faults_in_logic, leaves_other_setting, takes_local_setting, ends_test, catches_error, reports_attempt, raises_noproc, reports_later, adds_calls, HasFlags, attempt_flag, StepDiffers, is_traced, has_that_flag, is_attempt_by, step_differs, CallsAction, OneCallsAction, TwoCallActions, ShowsOrder, OneShowsOrder, calls_action, one_calls_action, two_call_actions, shows_order, one_shows_order, HasWholeList, OneHasWholeList, HasListOfNone, ReadsNoList, has_whole_list, one_has_whole_list, is_list_of_none, has_list_of_none, HasNone, has_none, hands_on, handed_on, HasFlagBeside, has_other, LosesLastFlag, loses_last_flag, GivesFlag, gives_flag, GetsFlagAgain, gets_flag_again, NamesFlag, names_flag, sets_silent, SilencesWithoutFlags, silences_without_flags, is_of_sends, has_mark_below, difference_where}
 use Rattle.def_explain.proofs.Several.{one_by_any, any_by_one}
 use Rattle.def_explain.specs.Laws.{BodyDifferenceIsComputed, OrderDifferenceIsComputed, ListDifferenceIsComputed, EventDifferenceIsComputed, StepDifferenceIsComputed}
 

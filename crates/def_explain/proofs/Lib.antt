@@ -28,6 +28,7 @@ mod NodeMoves
 mod ReasonRows
 pub mod SpecReasons
 pub mod CommandReasons
+pub mod RunCommands
 pub mod Remarks
 mod RemarkRows
 pub mod EmptyScripts

@@ -13,7 +13,8 @@ use Rattle.def_session.specs.Settings.{FunctionSetting, Setting, off, plain, by,
 use Rattle.def_session.specs.Session.{effects_of_outcome, evaluated_by}
 use Rattle.def_explain.specs.Reasons.{Reason, reason_of}
 use Rattle.def_explain.specs.Verdicts.{verdict_by}
-use Rattle.def_explain.specs.Differences.{node_ends, reads_freed, suppresses_message, leaves_no_mark, ignores_silent, evaluates_from_right, reads_no_list, faults_in_logic, later_silent, is_silent_by, has_none, loses_last_flag, gets_flag_again, silences_without_flags, has_list_of_none, one_shows_order, difference_where, is_of_sends, is_of_calls, body_differs, body_differences, clause_differences, differences_by, firing_differences, setting_differences}
+use Rattle.def_trap.specs.Actions.{is_of_calls}
+use Rattle.def_explain.specs.Differences.{node_ends, reads_freed, suppresses_message, leaves_no_mark, ignores_silent, evaluates_from_right, reads_no_list, faults_in_logic, later_silent, is_silent_by, has_none, loses_last_flag, gets_flag_again, silences_without_flags, has_list_of_none, one_shows_order, difference_where, is_of_sends, body_differs, body_differences, clause_differences, differences_by, firing_differences, setting_differences}
 use Rattle.def_explain.specs.Logic.{clause_has_logic_on_other}
 use Rattle.def_explain.specs.NodeCommands.{can_differ_by, expression_can_differ, one_can_differ, one_calls_logic, clause_can_differ, setting_can_differ}
 use Rattle.def_explain.proofs.Logic.{no_logic_in_clause}

@@ -1,18 +1,16 @@
 -- Where no command of a program can lead to one, a node does no move of any run otherwise: its sessions have no flag or setting by which a node can differ.
-use Rattle.std.proofs.Common.{◌≡◌, ℕ, zero, suc, Bool, true, false, List, [], ◌∷◌, map, option_to_list, refl, ap, if◌then◌else◌}
+use Rattle.std.proofs.Common.{◌≡◌, ℕ, suc, Bool, true, false, List, [], ◌∷◌, map, option_to_list, refl, ap, if◌then◌else◌}
 use Rattle.std.specs.List.{list_any, AllByRecursion}
 use Rattle.std.specs.Str.{bytes_eq}
-use Rattle.std.proofs.lemmas.Bool.{or_parts, or_from}
+use Rattle.std.proofs.lemmas.Bool.{or_from}
 use Rattle.def_term.specs.Names.{Name}
 use Rattle.def_script.specs.Program.{Function, Command, session_of}
 use Rattle.def_script.specs.Exports.{Exports, exports_of}
 use Rattle.def_script.specs.Script.{creations}
-use Rattle.def_node.specs.Event.{Event}
-use Rattle.def_node.specs.Node.{Move, moved, idle, next_of}
 use Rattle.def_session.specs.State.{absent, absent_session, alive_at_start}
 use Rattle.def_session.specs.Commands.{command_done}
 use Rattle.def_outlook.specs.Outlook.{Outlook, outlook}
-use Rattle.def_run.specs.Run.{HistoryItem, event_item, command_item, RunState, PickStep, takes_command, goes_to, pick_step_in, pick_step_with, pick_step, start}
+use Rattle.def_run.specs.Run.{HistoryItem, event_item, command_item, RunState, PickStep, pick_step, start}
 use Rattle.def_run.specs.History.{NamedSession, session_state_after, all_after, all_after_items, moments_from, move_history, move_histories_from}
 use Rattle.def_explain.specs.Accounts.{command_lines, differences_in_lines}
 use Rattle.def_explain.specs.CommandDifferences.{command_difference}
@@ -20,6 +18,7 @@ use Rattle.def_explain.proofs.DifferenceLines.{uncounted_none}
 use Rattle.def_explain.specs.NodeMoves.{is_some_difference, session_differs, moment_differs, move_differs}
 use Rattle.def_explain.specs.NodeCommands.{command_can_differ}
 use Rattle.def_explain.specs.RunLaws.{NoCommandNoDifference}
+use Rattle.def_explain.proofs.RunCommands.{IsWithout, IsStepWithout, pick_without}
 use Rattle.def_explain.proofs.NodeSessions.{IsPlain, new_is_plain, event_leaves_plain, command_leaves_plain, event_without_difference}
 
 -- no session has a flag or a setting by which a node can differ
@@ -28,8 +27,11 @@ SessionsArePlain ss = AllByRecursion (λ s. IsPlain s.1) ss
 
 -- what is shown is an event, or a command that can't lead to such a move
 abbrev IsPlainItem : HistoryItem → Type 0
-IsPlainItem (event_item e) = Unit {0}
-IsPlainItem (command_item c) = command_can_differ c ≡ false
+IsPlainItem x = IsWithout command_can_differ x
+
+-- none of the commands can lead to such a move
+abbrev CommandsArePlain : List Command → Type 0
+CommandsArePlain cs = list_any command_can_differ cs ≡ false
 
 -- ---- the sessions
 
@@ -73,49 +75,14 @@ module _ (o : Exports) where
   moments-without-difference l k pick ss (x ∷ xs) i h =
       or_from (list_any (session_differs o l x) ss) _ (sessions-without-difference l x ss h) (moments-without-difference l k pick (all_after o ss x) xs i.1 (all-after ss x i.0 h))
 
--- ---- one pick
-
--- none of the commands can lead to such a move
-abbrev CommandsArePlain : List Command → Type 0
-CommandsArePlain cs = list_any command_can_differ cs ≡ false
-
--- neither a command that the pick takes nor one that is left can
-abbrev IsPlainStep : PickStep → Type 0
-IsPlainStep t = AllByRecursion IsPlainItem t.shown × CommandsArePlain t.after.commands
-
-plain-command : (p : RunState) (room : ℕ) (cs : List Command) → CommandsArePlain p.commands → CommandsArePlain cs → IsPlainStep (takes_command p room cs)
-plain-command p room [] h k = (tt, h)
-plain-command p room (c ∷ cs) h k =
-    let both : (command_can_differ c ≡ false) × CommandsArePlain cs = or_parts (command_can_differ c) _ k in
-    ((both.0, tt), both.1)
-
-plain-events : (es : List Event) → AllByRecursion IsPlainItem (map event_item es)
-plain-events [] = tt
-plain-events (e ∷ es) = (tt, plain-events es)
-
-plain-move : (p : RunState) (room : ℕ) (m : Move) → CommandsArePlain p.commands → IsPlainStep (goes_to p room m)
-plain-move p room (idle w) h = (tt, h)
-plain-move p room (moved w es) h = (plain-events es, h)
-
-plain-pick-in : (fs : List Function) (p : RunState) (room pick : ℕ) → CommandsArePlain p.commands → IsPlainStep (pick_step_in fs p room pick)
-plain-pick-in fs p room zero h = plain-command p room p.commands h h
-plain-pick-in fs p room (suc n) h = plain-move p room (next_of fs p.world (suc n)) h
-
-plain-pick-with : (fs : List Function) (p : RunState) (room pick : ℕ) → CommandsArePlain p.commands → IsPlainStep (pick_step_with fs p room pick)
-plain-pick-with fs p zero pick h = (tt, h)
-plain-pick-with fs p (suc room) pick h = plain-pick-in fs p room pick h
-
-plain-pick : (fs : List Function) (p : RunState) (pick : ℕ) → CommandsArePlain p.commands → IsPlainStep (pick_step fs p pick)
-plain-pick fs p pick h = plain-pick-with fs p p.room pick h
-
 -- ---- a run
 
 moves-without-difference : (o : Exports) (fs : List Function) (p : RunState) (k : ℕ) (ss : List NamedSession) (picks : List ℕ) → CommandsArePlain p.commands → SessionsArePlain ss
     → list_any (λ b. b) (map (move_differs o) (move_histories_from o fs p k ss picks)) ≡ false
 moves-without-difference o fs p k ss [] h i = refl
-moves-without-difference o fs p k ss (pick ∷ picks) h i = go (pick_step fs p pick) (pick_step fs p pick).moved (plain-pick fs p pick h) (λ q j ts g l. moves-without-difference o fs q j ts picks g l)
+moves-without-difference o fs p k ss (pick ∷ picks) h i = go (pick_step fs p pick) (pick_step fs p pick).moved (pick_without command_can_differ fs p pick h) (λ q j ts g l. moves-without-difference o fs q j ts picks g l)
   where
-    go : (t : PickStep) (b : Bool) → IsPlainStep t
+    go : (t : PickStep) (b : Bool) → IsStepWithout command_can_differ t
         → ((q : RunState) (j : ℕ) (ts : List NamedSession) → CommandsArePlain q.commands → SessionsArePlain ts → list_any (λ b. b) (map (move_differs o) (move_histories_from o fs q j ts picks)) ≡ false)
         → list_any (λ b. b) (map (move_differs o) (if b then move_history o (suc k) pick (outlook fs p.world pick) ss t.shown ∷ move_histories_from o fs t.after (suc k) (all_after_items o ss t.shown) picks
         else move_histories_from o fs t.after k ss picks)) ≡ false

@@ -309,7 +309,78 @@ pub one_matches : of_function (in_module "g" 0) (word "true") (brackets (word "l
 unfolding is_written_bare digits
 one_matches = refl
 
+-- ---- traps of commands that are done
+
+-- {'_',[],Body}
+abbrev of_any : List Tree → Tree
+of_any bs = braces (word "_" ∷ brackets [] ∷ brackets bs ∷ [])
+
+-- {['_',..],[],[]}, with a head of so many
+abbrev of_head_alone : List Tree → Tree
+of_head_alone ts = braces (brackets ts ∷ brackets [] ∷ brackets [] ∷ [])
+
+pub action_as_constant : of_function (in_module "f" 1) (brackets (of_any (word "return_trace" ∷ []) ∷ [])) (brackets []) ≡ says "clause 1: body 1: return_trace is a constant, and no call of the action"
+unfolding is_written_bare digits
+action_as_constant = refl
+
+-- an action that is called, and an atom that names none
+pub action_as_call : of_function (in_module "f" 1) (brackets (of_any (calls "return_trace" [] ∷ word "true" ∷ []) ∷ [])) (brackets []) ≡ None
+unfolding is_written_bare digits
+action_as_call = refl
+
+-- the first expression of the first clause that is one
+pub action_in_second_clause : of_function (in_module "f" 1)
+    (brackets (of_one [] [] ∷ of_any (calls "return_trace" [] ∷ calls "enable_trace" (word "calls" ∷ []) ∷ word "silent" ∷ []) ∷ [])) (brackets [])
+    ≡ says "clause 2: body 2: enable_trace has no effect, calls is no flag"
+unfolding is_written_bare digits
+action_in_second_clause = refl
+
+pub head_of_other_arity : of_function (in_module "f" 1) (brackets (of_head_alone (word "_" ∷ word "_" ∷ []) ∷ [])) (brackets []) ≡ says "clause 1: the head has 2 elements, no function that is traced has as many arguments"
+unfolding is_written_bare digits
+head_of_other_arity = refl
+
+-- of the functions of the module one has no argument, and isn't exported
+pub head_of_unexported : of_function (braces (word "m" ∷ word "_" ∷ word "_" ∷ [])) (brackets (of_head_alone [] ∷ [])) (brackets []) ≡ says "clause 1: the head has 0 elements, no function that is traced has as many arguments"
+unfolding is_written_bare digits
+head_of_unexported = refl
+
+pub head_of_local : of_function (braces (word "m" ∷ word "_" ∷ word "_" ∷ [])) (brackets (of_head_alone [] ∷ [])) (brackets (word "local" ∷ [])) ≡ None
+unfolding is_written_bare digits
+head_of_local = refl
+
+-- where no function matches, that is said
+pub none_matches_first : of_function (in_module "f" 3) (brackets (of_any (word "return_trace" ∷ []) ∷ [])) (brackets []) ≡ says "no function matches; is m:f/1 meant?"
+unfolding is_written_bare digits
+none_matches_first = refl
+
+pub head_of_send : of_command at_start (set_send (codes "s") (brackets (of_head_alone (word "_" ∷ []) ∷ []))) ≡ says "clause 1: the head has 1 elements, the list of a send is [Receiver,Message]"
+unfolding is_written_bare digits
+head_of_send = refl
+
+pub mark_of_send : of_command at_start (set_send (codes "s") (brackets (of_any (calls "return_trace" [] ∷ []) ∷ []))) ≡ says "clause 1: body 1: return_trace has no effect on a send"
+unfolding is_written_bare digits
+mark_of_send = refl
+
+pub head_of_receive : of_command at_start (set_receive (codes "s") (brackets (of_head_alone (word "_" ∷ word "_" ∷ []) ∷ [])))
+    ≡ says "clause 1: the head has 2 elements, the list of a receive is [Node,Sender,Message]"
+unfolding is_written_bare digits
+head_of_receive = refl
+
+pub send_by_two : of_command at_start (set_send (codes "s") (brackets (of_head_alone (word "_" ∷ word "_" ∷ []) ∷ []))) ≡ None
+unfolding is_written_bare digits
+send_by_two = refl
+
+-- `true` has no clauses, nor has [] or `false`
+pub without_clauses : of_command at_start (set_receive (codes "s") (brackets [])) ≡ None
+unfolding is_written_bare digits
+without_clauses = refl
+
 -- ---- replies
+
+pub reply_of_trap : reply_text two_functions at_start (set_function (codes "s") (braces (word "m" ∷ word "_" ∷ word "_" ∷ [])) (brackets (of_any (word "silent" ∷ []) ∷ [])) (brackets (word "local" ∷ [])))
+    ≡ codes "replies 2: clause 1: body 1: silent is a constant, and no call of the action"
+unfolding is_written_bare digits
+reply_of_trap = refl
 
 pub reply_of_no_flag : reply_text two_functions at_start (set_processes (codes "s") (word "all") (word "true") (brackets (word "recv" ∷ [])))
     ≡ codes "replies badarg: no flag recv; the flags are send, 'receive', call, procs, silent, arity, set_on_spawn, set_on_first_spawn, set_on_link, set_on_first_link"

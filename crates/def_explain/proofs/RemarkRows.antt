@@ -2,10 +2,15 @@
 use Rattle.std.proofs.Common.{◌≡◌, ℕ, true, false, List, [], ◌∷◌, ◌++◌, Some, None, codes, refl}
 use Rattle.std.specs.Fmt.{digits}
 use Rattle.def_term.specs.Names.{word}
+use Rattle.def_term.specs.Tree.{Tree, tuple, list, none, more}
 use Rattle.def_term.specs.Text.{is_written_bare}
 use Rattle.def_text.specs.Tokens.{Token, open_brace, close_brace, open_bracket, close_bracket, comma, stop, atom, TokenSpan}
-use Rattle.def_explain.specs.CommandReasons.{not_created, no_how, no_match}
-use Rattle.def_explain.specs.Remarks.{remarks_after, remark_text, has_reason_line}
+use Rattle.def_script.specs.Exports.{Exports}
+use Rattle.def_script.specs.Program.{set_processes, set_send}
+use Rattle.def_spec.specs.Expressions.{for_sends}
+use Rattle.def_trap.specs.Traps.{names_action, of_body}
+use Rattle.def_explain.specs.CommandReasons.{not_created, no_how, no_match, has_trap}
+use Rattle.def_explain.specs.Remarks.{remarks_after, remark_text, command_has_trap, has_reason_line}
 use Rattle.def_explain.specs.CommandPlaces.{before_form, command_starts}
 
 -- the second and the fourth of four commands
@@ -19,6 +24,30 @@ text_of_remark = refl
 text_of_no_match : remark_text (record { command = 12; reason = no_match None }) ≡ codes "command 12 replies 0: no function matches"
 unfolding is_written_bare digits
 text_of_no_match = refl
+
+text_of_trap : remark_text (record { command = 2; reason = has_trap 1 0 for_sends (of_body 0 (names_action (codes "return_trace"))) })
+    ≡ codes "command 2 replies 1: clause 1: body 1: return_trace is a constant, and no call of the action"
+unfolding is_written_bare digits
+text_of_trap = refl
+
+-- ---- traps, whatever the session is
+
+abbrev no_functions : Exports
+no_functions = record { functions = []; processes = 1 }
+
+-- [{'_',[],[E]}]
+abbrev of_body_alone : Tree → Tree
+of_body_alone t = list (more (tuple (more (word "_") (more (list none) (more (list (more t none)) none)))) none)
+
+trap_of_send : command_has_trap no_functions (set_send (codes "s") (of_body_alone (word "silent"))) ≡ true
+trap_of_send = refl
+
+no_trap_of_send : command_has_trap no_functions (set_send (codes "s") (of_body_alone (word "true"))) ≡ false
+no_trap_of_send = refl
+
+-- of flags there are no clauses
+no_trap_of_flags : command_has_trap no_functions (set_processes (codes "s") (word "all") (word "true") (list none)) ≡ false
+no_trap_of_flags = refl
 
 -- ---- the lines of replies
 

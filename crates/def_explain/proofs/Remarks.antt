@@ -1,7 +1,8 @@
--- What is remarked of a run, pick by pick: by the picks that moved, up to the last command, and nothing where no reply's line begins so.
+-- What is remarked of a run, pick by pick: by the picks that moved, up to the last command, and nothing where no reply's line begins so and no specification has a trap.
 use Rattle.std.proofs.Common.{◌≡◌, ◌≢◌, inl, inr, ◌∙◌, ℕ, zero, suc, ◌==◌, Bool, true, false, ◌||◌, ◌&&◌, List, [], ◌∷◌, ◌++◌, map, Option, Some, None, slice_get, refl, sym, ap, ap₂, subst, append_assoc, if◌then◌else◌, ◌+◌, arith}
 use Rattle.std.proofs.lemmas.Grind.{flat_map-append}
 use Rattle.std.specs.List.{AllByRecursion}
+use Rattle.std.specs.Option.{is_some}
 use Rattle.def_term.specs.Tree.{Tree}
 use Rattle.std.specs.Fmt.{digits}
 use Rattle.def_term.specs.Text.{w, is_written_bare}
@@ -10,6 +11,7 @@ use Rattle.def_script.specs.Exports.{Exports, exports_of}
 use Rattle.def_node.specs.Event.{Event}
 use Rattle.def_node.specs.Node.{Move, moved, idle, next_of}
 use Rattle.def_outlook.specs.Outlook.{outlook}
+use Rattle.def_session.specs.State.{Session}
 use Rattle.def_session.specs.Commands.{command_done, fault_term}
 use Rattle.def_run.specs.Run.{HistoryItem, event_item, command_item, RunState, PickStep, goes_to, pick_step_with, pick_step, moves, moves_from, start}
 use Rattle.def_run.specs.History.{NamedSession, Moment, session_in, all_after, all_after_items, named_sessions, moments_from, move_history, move_histories_from, moments_of, history, item_reply, history_replies}
@@ -18,10 +20,11 @@ use Rattle.def_run.proofs.Replay.{pick_kept}
 use Rattle.def_run.proofs.Histories.{history_has_the_replies}
 use Rattle.def_spec.specs.Reading.{SpecFault, badarg, unsupported}
 use Rattle.def_explain.specs.SpecReasons.{reason_fault}
-use Rattle.def_explain.specs.CommandReasons.{CommandReason, not_created, exists_already, is_destroyed, no_processes, not_alive, no_how, no_flag_list, no_flag, no_pattern, no_options, no_specification, no_match, no_exported_match, reply_of, command_reason}
-use Rattle.def_explain.specs.Remarks.{item_reasons, reasons_in, run_reasons, Remark, remarks_after, begins_reason, has_reason_line}
+use Rattle.def_explain.specs.CommandReasons.{CommandReason, not_created, exists_already, is_destroyed, no_processes, not_alive, no_how, no_flag_list, no_flag, no_pattern, no_options, no_specification, no_match, no_exported_match, has_trap, reply_of, command_reason}
+use Rattle.def_explain.specs.Remarks.{item_reasons, reasons_in, run_reasons, Remark, remarks_after, command_has_trap, begins_reason, has_reason_line}
 use Rattle.def_explain.specs.RemarkLaws.{IsRemarked, RemarkIsOfReason, RemarkHasItsReply, NoReasonLineNoRemark, TakesNoCommand, NothingAfterCommands, MovesHaveTheRemarks}
-use Rattle.def_explain.proofs.CommandReasons.{reply_is_of_reason}
+use Rattle.def_explain.proofs.CommandReasons.{reply_is_of_reason, trap_is_of_command}
+use Rattle.def_explain.proofs.RunCommands.{IsWithout, AreMomentsWithout, history_without}
 
 module _ (o : Exports) (fs : List Function) where
   -- of what is shown, from these sessions on
@@ -114,21 +117,34 @@ unfolding is_written_bare
 begins_by_fault badarg rest = refl
 begins_by_fault (unsupported s) rest = refl
 
-begins_by : (r : CommandReason) (rest : List ℕ) → begins_reason (w (reply_of r) ++ 10 ∷ rest) ≡ true
+-- a reason other than a trap
+abbrev IsFailure : CommandReason → Type 0
+IsFailure (has_trap count before d t) = ⊥
+IsFailure r = Unit {0}
+
+-- where the specification has none
+no_trap : (o : Exports) (s : Session) (c : Command) (r : CommandReason) → command_reason o s c ≡ Some r → command_has_trap o c ≡ false → IsFailure r
+no_trap o s c (has_trap count before d t) e none =
+    let there : command_has_trap o c ≡ true = ap is_some (trap_is_of_command o s c count before d t e) in
+    absurd (cc)
+no_trap o s c r e none = tt
+
+begins_by : (r : CommandReason) (rest : List ℕ) → IsFailure r → begins_reason (w (reply_of r) ++ 10 ∷ rest) ≡ true
 unfolding is_written_bare digits
-begins_by not_created rest = refl
-begins_by exists_already rest = refl
-begins_by is_destroyed rest = refl
-begins_by (no_processes t) rest = refl
-begins_by (not_alive n) rest = refl
-begins_by (no_how t) rest = refl
-begins_by (no_flag_list t) rest = refl
-begins_by (no_flag t) rest = refl
-begins_by (no_pattern t) rest = refl
-begins_by (no_options t) rest = refl
-begins_by (no_specification r) rest = begins_by_fault (reason_fault r) rest
-begins_by (no_match near) rest = refl
-begins_by no_exported_match rest = refl
+begins_by not_created rest h = refl
+begins_by exists_already rest h = refl
+begins_by is_destroyed rest h = refl
+begins_by (no_processes t) rest h = refl
+begins_by (not_alive n) rest h = refl
+begins_by (no_how t) rest h = refl
+begins_by (no_flag_list t) rest h = refl
+begins_by (no_flag t) rest h = refl
+begins_by (no_pattern t) rest h = refl
+begins_by (no_options t) rest h = refl
+begins_by (no_specification r) rest h = begins_by_fault (reason_fault r) rest
+begins_by (no_match near) rest h = refl
+begins_by no_exported_match rest h = refl
+begins_by (has_trap count before d t) rest h = absurd h
 
 or_second : (a b : Bool) → (a || b) ≡ false → b ≡ false
 or_second true b h = absurd (cc)
@@ -154,30 +170,32 @@ no_end (x ∷ xs) ys y h = cc
 
 quiet_command : (o : Exports) (ss : List NamedSession) (c : Command) (rest : List ℕ) (n : ℕ) (rs : List (Option CommandReason)) (q : Option CommandReason)
     → command_reason o (session_in o (session_of c) ss) c ≡ q
-    → has_reason_line true (w (command_done o (session_in o (session_of c) ss) c).1 ++ 10 ∷ rest) ≡ false
+    → has_reason_line true (w (command_done o (session_in o (session_of c) ss) c).1 ++ 10 ∷ rest) ≡ false → command_has_trap o c ≡ false
     → remarks_after (suc n) rs ≡ [] → remarks_after n (q ∷ rs) ≡ []
-quiet_command o ss c rest n rs None e h later = later
-quiet_command o ss c rest n rs (Some r) e h later =
+quiet_command o ss c rest n rs None e h k later = later
+quiet_command o ss c rest n rs (Some r) e h k later =
     let reply = (command_done o (session_in o (session_of c) ss) c).1 in
     let is = reply_is_of_reason o (session_in o (session_of c) ss) c r e in
-    let found = found_first (w (reply_of r) ++ 10 ∷ rest) (no_end (w (reply_of r)) rest 10) (begins_by r rest) in
+    let found = found_first (w (reply_of r) ++ 10 ∷ rest) (no_end (w (reply_of r)) rest 10) (begins_by r rest (no_trap o (session_in o (session_of c) ss) c r e k)) in
     let none = subst (λ t. has_reason_line true (w t ++ 10 ∷ rest) ≡ false) is h in
     absurd (cc)
 
-quiet : (o : Exports) (ms : List Moment) (n : ℕ) → has_reason_line true (lines_of (history_replies o ms)) ≡ false → remarks_after n (reasons_in o ms) ≡ []
-quiet o [] n h = refl
-quiet o (m ∷ ms) n h = go (λ k. quiet o ms k) m.item h
+quiet : (o : Exports) (ms : List Moment) (n : ℕ) → has_reason_line true (lines_of (history_replies o ms)) ≡ false → AreMomentsWithout (command_has_trap o) ms → remarks_after n (reasons_in o ms) ≡ []
+quiet o [] n h k = refl
+quiet o (m ∷ ms) n h k = go (λ j l. quiet o ms j l k.1) m.item h k.0
   where
-    go : ((k : ℕ) → has_reason_line true (lines_of (history_replies o ms)) ≡ false → remarks_after k (reasons_in o ms) ≡ []) → (x : HistoryItem) → has_reason_line true (lines_of (item_reply o m.before x ++ history_replies o ms)) ≡ false → remarks_after n (item_reasons o m.before x ++ reasons_in o ms) ≡ []
-    go again (event_item e) h = again n h
-    go again (command_item c) h =
+    go : ((j : ℕ) → has_reason_line true (lines_of (history_replies o ms)) ≡ false → remarks_after j (reasons_in o ms) ≡ []) → (x : HistoryItem) → has_reason_line true (lines_of (item_reply o m.before x ++ history_replies o ms)) ≡ false → IsWithout (command_has_trap o) x
+        → remarks_after n (item_reasons o m.before x ++ reasons_in o ms) ≡ []
+    go again (event_item e) h i = again n h
+    go again (command_item c) h i =
         let reply : Tree = (command_done o (session_in o (session_of c) m.before) c).1 in
         let line = subst (λ l. has_reason_line true l ≡ false) (append_assoc (w reply) (10 ∷ []) (lines_of (history_replies o ms))) h in
-        quiet_command o m.before c (lines_of (history_replies o ms)) n (reasons_in o ms) (command_reason o (session_in o (session_of c) m.before) c) refl line
+        quiet_command o m.before c (lines_of (history_replies o ms)) n (reasons_in o ms) (command_reason o (session_in o (session_of c) m.before) c) refl line i
         (again (suc n) (after_line true (w reply) (lines_of (history_replies o ms)) line))
 
 pub no_reason_line_no_remark : NoReasonLineNoRemark
-no_reason_line_no_remark p picks h = quiet (exports_of p) (history p picks) 0 (subst (λ ts. has_reason_line true (lines_of ts) ≡ false) (sym (history_has_the_replies p picks)) h)
+no_reason_line_no_remark p picks h k =
+    quiet (exports_of p) (history p picks) 0 (subst (λ ts. has_reason_line true (lines_of ts) ≡ false) (sym (history_has_the_replies p picks)) h) (history_without (command_has_trap (exports_of p)) p picks k)
 
 -- ---- which commands are remarked of
 

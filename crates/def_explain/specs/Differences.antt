@@ -18,6 +18,7 @@ use Rattle.def_outlook.specs.Outlook.{RuntimeError, sends_to_no_pid, links_to_no
 use Rattle.def_session.specs.State.{MarkKind, for_exceptions, Session, flags_at, mark_of}
 use Rattle.def_session.specs.Messages.{last_message}
 use Rattle.def_session.specs.Session.{inherit, context, effects_of, reported_for, mark_asked, is_marked_for_exceptions}
+use Rattle.def_trap.specs.Actions.{is_of_calls}
 use Rattle.def_explain.specs.Causes.{is_false_message}
 use Rattle.def_explain.specs.Lists.{One}
 use Rattle.def_explain.specs.Logic.{clause_has_logic_on_other}
@@ -379,14 +380,10 @@ has_list_of_none k = is_list_of_none k.head && (one_has_whole_list k.conditions 
 abbrev pub order_difference : Exprs → Option Difference
 order_difference body = difference_where (one_shows_order body) evaluates_from_right
 
--- the dialect is that of sends, or of calls
+-- the dialect is that of sends
 abbrev pub is_of_sends : Dialect → Bool
 is_of_sends for_sends = true
 is_of_sends d = false
-
-abbrev pub is_of_calls : Dialect → Bool
-is_of_calls for_calls = true
-is_of_calls d = false
 
 -- whether a node does this otherwise at a clause that fires
 abbrev pub body_differs : Dialect → Context → List Effect → Difference → Bool

@@ -11,7 +11,8 @@ use Rattle.def_spec.specs.Outcome.{Clause, Fires, outcome_in}
 use Rattle.def_explain.specs.Heads.{HeadReason, IsHeadReason}
 use Rattle.def_explain.specs.Mismatches.{Mismatch, IsMismatch, mismatch_of}
 use Rattle.def_explain.specs.Values.{FaultsAt}
-use Rattle.def_explain.specs.Spellings.{function_name, action_name}
+use Rattle.def_trap.specs.Actions.{action_name}
+use Rattle.def_explain.specs.Spellings.{function_name}
 use Rattle.def_explain.specs.Differences.{Difference, evaluates_from_right, faults_in_logic, reads_no_list, ReadsNoList, list_difference, OneShowsOrder, order_difference, logic_difference, BodyDiffers, body_differs, EventDiffers, event_difference, StepDiffers, step_differs, evaluation_differences}
 use Rattle.def_explain.specs.Logic.{ClauseHasLogicOnOther}
 use Rattle.def_explain.specs.CommandDifferences.{CommandDiffers, command_difference}

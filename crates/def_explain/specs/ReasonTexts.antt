@@ -12,9 +12,10 @@ use Rattle.def_spec.specs.Expressions.{for_sends, for_receives, Action}
 use Rattle.def_spec.specs.Reading.{Row, table, found_in, has_action}
 use Rattle.def_session.specs.State.{Session}
 use Rattle.def_session.specs.Commands.{command_done}
-use Rattle.def_explain.specs.Spellings.{action_name}
+use Rattle.def_trap.specs.Actions.{action_name}
+use Rattle.def_trap.specs.TrapTexts.{clause_trap_text}
 use Rattle.def_explain.specs.SpecReasons.{ExpressionReason, not_in_head, no_variable, no_call, no_function, wrong_count, wrong_place, not_supported, HeadTermReason, no_head, no_head_variable, ShapeReason, no_tuple, element_count, no_conditions, no_body, ClauseReason, of_shape, of_head, of_condition, of_body, SpecReason, no_clauses, at_clause}
-use Rattle.def_explain.specs.CommandReasons.{CommandReason, not_created, exists_already, is_destroyed, no_processes, not_alive, no_how, no_flag_list, no_flag, no_pattern, no_options, no_specification, no_match, no_exported_match, command_reason}
+use Rattle.def_explain.specs.CommandReasons.{CommandReason, not_created, exists_already, is_destroyed, no_processes, not_alive, no_how, no_flag_list, no_flag, no_pattern, no_options, no_specification, no_match, no_exported_match, has_trap, command_reason}
 
 -- ---- parts
 
@@ -153,7 +154,7 @@ abbrev pub meant_text : Option Mfa → List ℕ
 meant_text None = []
 meant_text (Some f) = codes "; is " ++ mfa_text f ++ codes " meant?"
 
--- why a command is refused, or matches no function
+-- why a command is refused, matches no function or has a trap
 abbrev pub command_reason_text : CommandReason → List ℕ
 command_reason_text not_created = codes "the session isn't created yet"
 command_reason_text exists_already = codes "the session exists already"
@@ -168,6 +169,7 @@ command_reason_text (no_options t) = codes "Opts is [], [global] or [local]" ++ 
 command_reason_text (no_specification r) = setting_reason_text r
 command_reason_text (no_match near) = codes "no function matches" ++ meant_text near
 command_reason_text no_exported_match = codes "no exported function matches; [local] is for the others too"
+command_reason_text (has_trap count before d t) = clause_trap_text d before t
 
 -- after a reply, where there is a reason
 abbrev pub reason_after_reply : Option CommandReason → List ℕ

@@ -7,7 +7,7 @@ use Rattle.def_run.specs.Run.{moves}
 use Rattle.def_run.specs.Listing.{replies, lines_of}
 use Rattle.def_explain.specs.EmptyScripts.{HasNoForms, is_gap}
 use Rattle.def_explain.specs.CommandReasons.{CommandReason, reply_of}
-use Rattle.def_explain.specs.Remarks.{Remark, run_reasons, remarks, has_reason_line}
+use Rattle.def_explain.specs.Remarks.{Remark, run_reasons, remarks, has_traps, has_reason_line}
 
 -- it is one of these
 abbrev pub IsRemarked : Remark → List Remark → Type 0
@@ -26,9 +26,10 @@ RemarkHasItsReply =
     (p : Program) (picks : List ℕ) (n : ℕ) (r : CommandReason)
     → slice_get (run_reasons p picks) n ≡ Some (Some r) → slice_get (replies p picks) n ≡ Some (reply_of r)
 
--- where no reply's line begins so, nothing is remarked
+-- where no reply's line begins so, and no specification has a trap, nothing is remarked
 abbrev pub NoReasonLineNoRemark : Type 0
-NoReasonLineNoRemark = (p : Program) (picks : List ℕ) → has_reason_line true (lines_of (replies p picks)) ≡ false → remarks p picks ≡ []
+NoReasonLineNoRemark =
+    (p : Program) (picks : List ℕ) → has_reason_line true (lines_of (replies p picks)) ≡ false → has_traps p ≡ false → remarks p picks ≡ []
 
 -- the pick is no command
 abbrev pub TakesNoCommand : ℕ → Type 0

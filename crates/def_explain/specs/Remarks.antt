@@ -1,16 +1,17 @@
--- What is remarked of a run: which of the commands that it took are refused or match no function, and why (own).
+-- What is remarked of a run: which of the commands that it took are refused, match no function or have a trap, and why (own).
 -- Depends on the history of a run, on why a command is refused, and on the texts of reasons.
 use Rattle.std.specs.Prelude.{ℕ, suc, ◌==◌, Bool, true, false, ◌&&◌, ◌||◌, List, [], ◌∷◌, ◌++◌, flat_map, nat_eq, Option, Some, None, codes, decimal}
-use Rattle.std.specs.List.{starts_with}
+use Rattle.std.specs.List.{starts_with, list_any}
+use Rattle.std.specs.Option.{is_some}
 use Rattle.def_term.specs.Text.{w}
-use Rattle.def_script.specs.Program.{session_of, Program}
+use Rattle.def_script.specs.Program.{Command, session_of, Program}
 use Rattle.def_script.specs.Exports.{Exports, exports_of}
 use Rattle.def_run.specs.Run.{HistoryItem, event_item, command_item}
 use Rattle.def_run.specs.History.{NamedSession, Moment, session_in, history}
-use Rattle.def_explain.specs.CommandReasons.{CommandReason, reply_of, command_reason}
+use Rattle.def_explain.specs.CommandReasons.{CommandReason, reply_of, trap_reason, command_reason}
 use Rattle.def_explain.specs.ReasonTexts.{command_reason_text}
 
--- why a command is refused or matches no function, by its own session before it; None where it is done
+-- why a command is refused, matches no function or has a trap, by its own session before it; None where it is done as it was meant
 abbrev pub item_reasons : Exports → List NamedSession → HistoryItem → List (Option CommandReason)
 item_reasons o ss (event_item e) = []
 item_reasons o ss (command_item c) = command_reason o (session_in o (session_of c) ss) c ∷ []
@@ -23,7 +24,7 @@ reasons_in o ms = flat_map (λ m. item_reasons o m.before m.item) ms
 abbrev pub run_reasons : Program → List ℕ → List (Option CommandReason)
 run_reasons p picks = reasons_in (exports_of p) (history p picks)
 
--- a command that is refused or matches no function, by its number in the control list, counted from 1, and why
+-- a command that is refused, matches no function or has a trap, by its number in the control list, counted from 1, and why
 pub record Remark : Type 0 where
   pub command : ℕ
   pub reason : CommandReason
@@ -62,7 +63,15 @@ remark_text r = command_text r.command (reply_and_reason r.reason)
 
 -- ---- where nothing is remarked
 
--- the text begins with the line of such a reply: `badarg`, 0 or {unsupported,Name}
+-- the specification of the command has a trap, whatever its session is
+abbrev pub command_has_trap : Exports → Command → Bool
+command_has_trap o c = is_some (trap_reason o c)
+
+-- that of one of the program's commands has
+abbrev pub has_traps : Program → Bool
+has_traps p = list_any (command_has_trap (exports_of p)) p.commands
+
+-- the text begins with the line of a reply of a command that isn't done: `badarg`, 0 or {unsupported,Name}
 abbrev pub begins_reason : List ℕ → Bool
 begins_reason text =
     starts_with nat_eq text (codes "badarg\n") || (starts_with nat_eq text (codes "0\n") || starts_with nat_eq text (codes "{unsupported,"))

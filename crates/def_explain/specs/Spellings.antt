@@ -6,8 +6,9 @@ use Rattle.def_term.specs.Tree.{Tree, int, atom, pid, tuple, list, Trees, none, 
 use Rattle.def_term.specs.Names.{Name, word}
 use Rattle.def_spec.specs.Functions as fn
 use Rattle.def_spec.specs.Functions.{Func}
-use Rattle.def_spec.specs.Expressions.{Action, message, return_trace, exception_trace, silent, enable_trace, disable_trace, trace, caller, Expr, bound_to, whole_list, all_bound, constant, tuple_of, list_of, call, and_also, or_else, perform, Exprs, no_exprs, and_expr}
+use Rattle.def_spec.specs.Expressions.{Expr, bound_to, whole_list, all_bound, constant, tuple_of, list_of, call, and_also, or_else, perform, Exprs, no_exprs, and_expr}
 use Rattle.def_spec.specs.Reading.{AtomKind, a_variable, a_wrong_variable, a_plain_atom, atom_kind}
+use Rattle.def_trap.specs.Actions.{action_name}
 
 -- what a function is called by
 abbrev pub function_name : Func → Name
@@ -55,17 +56,6 @@ function_name fn.all_of = codes "and"
 function_name fn.one_of = codes "or"
 function_name fn.just_one_of = codes "xor"
 function_name fn.is_false = codes "not"
-
--- what an action is called by
-abbrev pub action_name : Action → Name
-action_name message = codes "message"
-action_name return_trace = codes "return_trace"
-action_name exception_trace = codes "exception_trace"
-action_name silent = codes "silent"
-action_name enable_trace = codes "enable_trace"
-action_name disable_trace = codes "disable_trace"
-action_name trace = codes "trace"
-action_name caller = codes "caller"
 
 -- an atom of `$` and digits isn't plain
 abbrev pub is_plain : AtomKind → Bool

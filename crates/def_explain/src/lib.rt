@@ -1,14 +1,15 @@
 //! Why a session reports nothing of an event, why a clause of a specification doesn't fire, why a command is refused,
 //! what a running node does otherwise, and what the sessions make of a run, move by move.
 //!
-//! Depends on the match specifications of `def_spec`, the sessions of `def_session` and the runs of `def_run`.
+//! Depends on the match specifications of `def_spec` and their traps in `def_trap`, the sessions of `def_session` and
+//! the runs of `def_run`.
 //! Promises, as laws over the definitions: a session that is there has a cause exactly where it reports nothing of
 //! an event, and a clause a reason exactly where it doesn't fire, one at most, and it is what is computed; a head
 //! has one exactly where it doesn't match, and differs first at one place; a specification has one exactly where it
-//! can't be read; a command that is refused has one, which says its reply; a condition faults at a part of it exactly
-//! where it has no value; what a node is said to do otherwise is what is defined of it, and it does no move otherwise
-//! where no command can lead to one; the messages that a session reports in the account of a run are its listing's; and
-//! a command is written as a term that is read as it. There is no code.
+//! can't be read; a command that is refused, matches no function or has a trap has one, which says its reply; a
+//! condition faults at a part of it exactly where it has no value; what a node is said to do otherwise is what is
+//! defined of it, and it does no move otherwise where no command can lead to one; the messages that a session reports
+//! in the account of a run are its listing's; and a command is written as a term that is read as it. There is no code.
 #![tactic(auto)]
 
 ghost use Rattle.def_explain.specs.Laws.{ReasonWhereNotFired, ReasonIsOne, ReasonIsComputed};
@@ -128,8 +129,9 @@ pub fn a_fault_of_a_specification_has_a_reason()
     ensures computed { SpecReasonIsComputed }
 {}
 
-/// A command that replies a fault, or a function command that replies 0, has a reason, which is what is computed; a
-/// command with a reason has its reply, and one that is refused changes nothing.
+/// A command that replies a fault, or a function command that replies 0, has a reason, and so has one whose
+/// specification has a trap; it is what is computed. A command with a reason has its reply, and one that is refused
+/// changes nothing.
 pub fn a_refusal_has_a_reason()
     ensures computed { CommandReasonIsComputed }
     ensures reply { ReplyIsOfReason }
@@ -153,7 +155,8 @@ pub fn a_nearest_function_is_there()
 {}
 
 /// A command of a run is remarked of exactly where it has a reason, and has the reply of that; the same is remarked by
-/// the picks that moved, and up to the last command; and nothing where no line of the replies begins as one of those.
+/// the picks that moved, and up to the last command; and nothing where no line of the replies begins as one of a
+/// command that isn't done, and no specification of the program's commands has a trap.
 pub fn a_remark_has_a_reason()
     ensures exactly { RemarkIsOfReason }
     ensures reply { RemarkHasItsReply }

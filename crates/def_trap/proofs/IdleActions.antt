@@ -4,7 +4,7 @@ use Rattle.std.proofs.lemmas.List.{append-nil}
 use Rattle.def_term.specs.Tree.{Tree}
 use Rattle.def_spec.specs.Flags.{Flag, Flags}
 use Rattle.def_spec.specs.Expressions.{Dialect, for_calls, for_sends, for_receives, Action, message, return_trace, exception_trace, silent, enable_trace, disable_trace, trace, caller, Context, Effect, change, trace_change, action_done, Evaluation, comes_to, faults, then_on, with_effect, in_body, its_effects}
-use Rattle.def_explain.specs.Differences.{is_of_calls}
+use Rattle.def_trap.specs.Actions.{is_of_calls}
 use Rattle.def_trap.specs.Traps.{marks_call}
 
 -- a fault, or a value without effects

@@ -8,7 +8,7 @@ use Rattle.def_spec.specs.Flags.{Flag, Flags, flag_named, flags_listed, flags_na
 use Rattle.def_spec.specs.Matching.{Bindings}
 use Rattle.def_spec.specs.Expressions.{Dialect, Action, message, return_trace, exception_trace, silent, enable_trace, disable_trace, trace, caller, Expr, bound_to, whole_list, all_bound, constant, tuple_of, list_of, call, and_also, or_else, perform, Exprs, no_exprs, and_expr, Context, Effect, in_body, Evaluation, comes_to, faults, then_on, evaluation, evaluation_of_all, change_by, living_pid, trace_change, trace_by, action_done, context_after}
 use Rattle.def_trap.specs.Traps.{BodyTrap, marks_no_call, lacks_flag, body_trap, marks_call, is_flag, no_flag, first_no_flag, no_flags_in, no_lists, no_flag_last, no_lists_last, no_flag_among}
-use Rattle.def_explain.specs.Differences.{is_of_calls}
+use Rattle.def_trap.specs.Actions.{is_of_calls}
 use Rattle.def_trap.specs.TrapLaws.{BodyTrapsDoNothing}
 use Rattle.def_trap.proofs.IdleActions.{IsIdle, idle_call, idle_marks, no_change, no_off, no_on}
 

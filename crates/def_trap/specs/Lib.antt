@@ -1,3 +1,4 @@
+pub mod Actions
 pub mod Traps
 pub mod TrapTexts
 pub mod TrapLaws

@@ -4,7 +4,7 @@ use Rattle.std.specs.Prelude.{ℕ, suc, List, ◌++◌, codes, decimal}
 use Rattle.def_term.specs.Tree.{Tree}
 use Rattle.def_term.specs.Text.{w, atom_text}
 use Rattle.def_spec.specs.Expressions.{Dialect, for_calls, for_sends, for_receives, Action}
-use Rattle.def_explain.specs.Spellings.{action_name}
+use Rattle.def_trap.specs.Actions.{action_name}
 use Rattle.def_trap.specs.Traps.{BodyTrap, names_action, marks_no_call, lacks_flag, Trap, of_head, of_body}
 
 -- what is matched in each dialect

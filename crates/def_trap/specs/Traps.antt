@@ -11,7 +11,7 @@ use Rattle.def_spec.specs.Matching.{Pattern, in_list, Patterns, no_patterns, and
 use Rattle.def_spec.specs.Expressions.{Dialect, for_calls, for_sends, for_receives, Action, return_trace, exception_trace, enable_trace, disable_trace, trace, Expr, constant, list_of, perform, Exprs, no_exprs, and_expr}
 use Rattle.def_spec.specs.Reading.{Callee, a_function, an_and_also, an_or_else, an_action, Row, found_in, table}
 use Rattle.def_spec.specs.Outcome.{Clause}
-use Rattle.def_explain.specs.Differences.{is_of_calls}
+use Rattle.def_trap.specs.Actions.{is_of_calls}
 
 -- what an expression of a body is that has no effect
 pub data BodyTrap : Type 0 where

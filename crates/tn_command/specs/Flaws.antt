@@ -28,7 +28,7 @@ use Rattle.tn_command.specs.declared.status.JobEnd.{JobEnd}
 use Rattle.tn_command.specs.declared.last_error.LastError.{LastError}
 use Rattle.tn_command.specs.declared.tee.Tee.{Tee}
 
--- the script has no forms, or a command of its run by these picks is refused or matches no function
+-- the script has no forms, or a command of its run by these picks is refused, matches no function or has a trap
 abbrev pub has_flaw : List ℕ → Program → List ℕ → Bool
 has_flaw bytes p picks = is_gap false bytes || has_remarks p picks
 
@@ -45,7 +45,7 @@ IsScheduleFlaw schedule bytes flawed = OfScript bytes (λ p. OfPicks (schedule_s
 abbrev pub IsNoFlaw : Bool → Type 0
 IsNoFlaw flawed = flawed ≡ false
 
--- a run by a schedule, whose notes say whether a command is refused or matches no function
+-- a run by a schedule, whose notes say whether a command is refused, matches no function or has a trap
 abbrev pub IsReplayFlaw : Replay → ReplayOutcome → List ℕ → Bool → Type 0
 IsReplayFlaw q (replayed.Listed None) bytes flawed = IsScheduleFlaw q.schedule bytes flawed
 IsReplayFlaw q (replayed.Listed (Some notes)) bytes flawed = flawed ≡ (is_gap false bytes || notes.has_remarks)

@@ -20,8 +20,8 @@ pub trait Command: Job<Global> {
     ghost use Rattle.def_notice.specs.FaultTexts.{FaultSaid};
     ghost use Rattle.tn_notice.specs.FaultViews.{command_fault_seen};
 
-    /// Whether an outcome shows a fault of the script with these bytes: a command is refused or matches no function, or
-    /// there are no forms.
+    /// Whether an outcome shows a fault of the script with these bytes: a command is refused, matches no function or
+    /// has a trap, or there are no forms.
     ghost flaw: { Self → Self.Outcome → List ℕ → Bool → Type 0 };
 
     /// What is said of a fault of the job.
@@ -54,7 +54,7 @@ pub trait Command: Job<Global> {
         ensures { IfOk result (flaw self.now outcome.now script.entry.bytes.now) };
 }
 
-/// Whether a script has no forms, or a command of its run by these picks is refused or matches no function.
+/// Whether a script has no forms, or a command of its run by these picks is refused, matches no function or has a trap.
 pub(crate) fn has_flaw(alloc: Global, script: NamedText<'_>, picks: &[u32]) -> Result<bool, Denial>
     ensures { IfOk result (IsFlawBy picks.now script.entry.bytes.now) }
 {

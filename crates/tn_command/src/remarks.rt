@@ -42,7 +42,7 @@ pub(crate) fn forms_notice(script: &[u8]) -> Option<Notice<'static>>
     }
 }
 
-/// Says of each command of the run by these picks that is refused or matches no function why, in a line.
+/// Says of each command of the run by these picks that is refused, matches no function or has a trap why, in a line.
 pub(crate) fn tell_remarks<R: Eprint + AllocGlobal>(rt: &R, script: NamedText<'_>, picks: &[u32]) {
     print_lines(
         rt,

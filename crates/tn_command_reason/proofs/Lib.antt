@@ -1,3 +1,5 @@
 mod NearestFunctions
+pub mod FunctionTraps
+pub mod SpecTraps
 pub mod CommandReasons
 pub mod ReplyTexts

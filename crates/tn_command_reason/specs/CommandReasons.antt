@@ -1,4 +1,4 @@
--- What the code's reasons why a command is refused stand for, and those of the code's sessions and functions.
+-- What the code's reasons why a command is refused, matches no function or has a trap stand for, and those of the code's sessions and functions.
 use Rattle.std.specs.Prelude.{◌≡◌, ℕ, ◌==◌, Bool, List, Option, Some, None}
 use Rattle.std.specs.Option.{option_map}
 use Rattle.std.specs.Borrow.{Bor}
@@ -22,11 +22,12 @@ use Rattle.tn_index.specs.declared.function_setting.FunctionPattern.{FunctionPat
 use Rattle.tn_session.specs.declared.session.Session.{Session}
 use Rattle.tn_reason.specs.SpecReasons.{spec_reason_seen}
 use Rattle.tn_trace.specs.Slots.{IsSession}
+use Rattle.tn_command_reason.specs.HeldTraps.{spec_trap_seen}
 use Rattle.tn_command_reason.specs.NearestFunctions.{lent_function}
 use Rattle.tn_command_reason.specs.declared.command_reasons.CommandReason.{CommandReason}
-use Rattle.tn_command_reason.specs.declared.command_reasons.CommandReason.TheVariants.{NotCreated, ExistsAlready, IsDestroyed, NoProcesses, NotAlive, NoHow, NoFlagList, NoFlag, NoPattern, NoOptions, NoSpecification, NoMatch, NoExportedMatch}
+use Rattle.tn_command_reason.specs.declared.command_reasons.CommandReason.TheVariants.{NotCreated, ExistsAlready, IsDestroyed, NoProcesses, NotAlive, NoHow, NoFlagList, NoFlag, NoPattern, NoOptions, NoSpecification, NoMatch, NoExportedMatch, HasTrap}
 
--- why a command is refused, or matches no function
+-- why a command is refused, matches no function or has a trap
 abbrev pub command_reason_seen : {A : Type 0} → CommandReason A → reasons.CommandReason
 command_reason_seen NotCreated = reasons.not_created
 command_reason_seen ExistsAlready = reasons.exists_already
@@ -41,6 +42,7 @@ command_reason_seen (NoOptions t) = reasons.no_options (tree_of t.now)
 command_reason_seen (NoSpecification r) = reasons.no_specification (spec_reason_seen r)
 command_reason_seen (NoMatch f) = reasons.no_match (lent_function f)
 command_reason_seen NoExportedMatch = reasons.no_exported_match
+command_reason_seen (HasTrap t) = spec_trap_seen t
 
 -- the same, where there is a reason
 abbrev pub command_reasons_seen : {A : Type 0} → Option (CommandReason A) → Option reasons.CommandReason
@@ -88,10 +90,14 @@ abbrev pub HasFunctionReason : {A : Type 0} → List (Function A) → (mfa spec 
 HasFunctionReason functions mfa spec options r = OfFunctions functions (λ o. r ≡ reasons.function_reason o mfa spec options)
 
 -- why a live session refuses a command, or matches no function
+abbrev pub HasLiveFailure : {A : Type 0} → List (Function A) → definition.Session → Command → Option reasons.CommandReason → Type 0
+HasLiveFailure functions s c r = OfFunctions functions (λ o. r ≡ reasons.live_failure o s c)
+
+-- the same, or which trap a command that is done has
 abbrev pub HasLiveReason : {A : Type 0} → List (Function A) → definition.Session → Command → Option reasons.CommandReason → Type 0
 HasLiveReason functions s c r = OfFunctions functions (λ o. r ≡ reasons.live_reason o s c)
 
--- why a session refuses a command, or matches no function, whoever lives
+-- why a session refuses a command, matches no function, or has a trap by it, whoever lives
 abbrev pub HasCommandReason : {A : Type 0} → List (Function A) → Option (Session A) → Command → Option reasons.CommandReason → Type 0
 HasCommandReason functions session c r =
     OfFunctions functions (λ o. (living : Alive) (s : definition.Session) → IsSession o.functions living s session → r ≡ reasons.command_reason o s c)

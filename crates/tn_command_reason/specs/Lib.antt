@@ -1,2 +1,4 @@
 pub mod CommandReasons
+pub mod FunctionTraps
+pub mod HeldTraps
 pub mod NearestFunctions

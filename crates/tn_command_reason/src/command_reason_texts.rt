@@ -1,4 +1,4 @@
-// The texts of why a command is refused, or matches no function.
+// The texts of why a command is refused, matches no function, or has a trap.
 ghost use Rattle.std.specs.Prelude.{◌≡◌, ◌++◌, Some, IfOk, OnOk};
 ghost use Rattle.std.specs.Option.{option_map};
 ghost use Rattle.def_term.specs.Text.{w};
@@ -16,15 +16,18 @@ ghost use Rattle.tn_text.specs.Writes.{Grows};
 ghost use Rattle.tn_remark.specs.TextLines.{text_seen};
 ghost use Rattle.tn_command_reason.specs.CommandReasons.{command_reason_seen, command_reasons_seen, no_flag_text};
 ghost use Rattle.tn_command_reason.specs.CommandReasons.{not_alive_text, no_match_text, fault_of_name};
+ghost use Rattle.tn_command_reason.specs.HeldTraps.{spec_trap_seen};
 ghost use Rattle.tn_command_reason.specs.NearestFunctions.{lent_function};
 ghost use Rattle.tn_reason.specs.SpecReasons.{spec_reason_seen};
 
 use crate::command_reasons::CommandReason;
+use crate::held_trap::{SpecTrap, lent_trap};
 use std::alloc::{AllocError, Allocator};
 use tn_reason::{ClauseReason, ExpressionReason, SpecReason};
 use tn_script::Function;
 use tn_term::{Atom, Term};
 use tn_text::{write_atom, write_decimal, write_pid, write_term};
+use tn_trap::write_trap;
 use tn_verdict::put_setting_reason;
 
 /// Appends what should stand there, and what there is in its place.
@@ -118,7 +121,18 @@ fn put_no_match<A: Allocator, B: Allocator>(
     }
 }
 
-/// Appends why a command is refused, or matches no function.
+/// Appends the line of the trap of a specification.
+fn put_trap<A: Allocator, B: Allocator>(
+    trap: &SpecTrap<A>,
+    out: &mut Vec<u8, B>,
+) -> Result<(), AllocError>
+    ensures ok { OnOk result (out.new.items ≡ out.old.items ++ command_reason_text (spec_trap_seen trap.now)) }
+    ensures grows { Grows out.old.items out.new.items }
+{
+    write_trap(trap.dialect, trap.before, lent_trap(&trap.trap), out)
+}
+
+/// Appends why a command is refused, matches no function, or has a trap.
 fn put_command_reason<A: Allocator, B: Allocator>(
     why: CommandReason<'_, A>,
     out: &mut Vec<u8, B>,
@@ -150,6 +164,7 @@ fn put_command_reason<A: Allocator, B: Allocator>(
         CommandReason::NoExportedMatch => {
             out.extend_from_slice(b"no exported function matches; [local] is for the others too")
         }
+        CommandReason::HasTrap(trap) => put_trap(&trap, out),
     }
 }
 
@@ -204,24 +219,25 @@ fn put_fault<A: Allocator, B: Allocator>(
     }
 }
 
-/// Appends the reply to a command that is refused, or matches no function.
+/// Appends the reply to a command that is refused, matches no function or has a trap.
 #[tactic(auto, unfolding(def_term::specs::Text::is_written_bare))]
 fn put_reply<A: Allocator, B: Allocator>(
-    why: CommandReason<'_, A>,
+    why: &CommandReason<'_, A>,
     out: &mut Vec<u8, B>,
 ) -> Result<(), AllocError>
-    ensures ok { OnOk result (out.new.items ≡ out.old.items ++ w (reply_of (command_reason_seen why.entry))) }
+    ensures ok { OnOk result (out.new.items ≡ out.old.items ++ w (reply_of (command_reason_seen why.now))) }
     ensures grows { Grows out.old.items out.new.items }
 {
     match why {
-        CommandReason::NoSpecification(why) => put_fault(why, out),
+        CommandReason::NoSpecification(why) => put_fault(*why, out),
         CommandReason::NoMatch(_) => out.extend_from_slice(b"0"),
         CommandReason::NoExportedMatch => out.extend_from_slice(b"0"),
+        CommandReason::HasTrap(trap) => write_decimal(trap.count, out),
         _ => out.extend_from_slice(b"badarg"),
     }
 }
 
-/// Appends the reply to a command that is refused, or matches no function, and why it is this one.
+/// Appends the reply to a command that is refused, matches no function or has a trap, and why it is this one.
 fn put_reply_and_reason<A: Allocator, B: Allocator>(
     why: CommandReason<'_, A>,
     out: &mut Vec<u8, B>,
@@ -230,7 +246,7 @@ fn put_reply_and_reason<A: Allocator, B: Allocator>(
     ensures grows { Grows out.old.items out.new.items }
 {
     out.extend_from_slice(b"replies ")?;
-    put_reply(why, out)?;
+    put_reply(&why, out)?;
     out.extend_from_slice(b": ")?;
     put_command_reason(why, out)
 }

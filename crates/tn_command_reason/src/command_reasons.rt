@@ -1,4 +1,4 @@
-// Why a command is refused, or matches no function.
+// Why a command is refused, matches no function, or has a trap.
 ghost use Rattle.std.specs.Prelude.{◌≡◌, IfOk};
 ghost use Rattle.def_term.specs.Tree.{elements};
 ghost use Rattle.def_explain.specs.SpecReasons.{first_reason};
@@ -9,9 +9,12 @@ ghost use Rattle.tn_flags.specs.Views.{command_of};
 ghost use Rattle.tn_spec.specs.Views.{dialect_of};
 ghost use Rattle.tn_session.specs.Looks.{look_seen};
 ghost use Rattle.tn_command_reason.specs.CommandReasons.{lent_terms, command_reasons_seen, MatchesNone, HasMatchReason};
-ghost use Rattle.tn_command_reason.specs.CommandReasons.{HasFunctionReason, HasLiveReason, HasCommandReason};
+ghost use Rattle.tn_command_reason.specs.CommandReasons.{HasFunctionReason, HasLiveFailure, HasLiveReason};
+ghost use Rattle.tn_command_reason.specs.CommandReasons.{HasCommandReason};
 
+use crate::held_trap::SpecTrap;
 use crate::nearest_functions::nearest_function;
+use crate::trap_reasons::trap_reason;
 use std::alloc::{AllocError, Allocator};
 use tn_flags::{Command, flag_of};
 use tn_index::FunctionPattern;
@@ -22,8 +25,8 @@ use tn_session::{Look, Session, how_of, options_of, pattern_of, procs_of};
 use tn_spec::Dialect;
 use tn_term::Term;
 
-/// Why a command is refused, or matches no function.
-#[derive_where(Clone, Copy)]
+/// Why a command is refused, matches no function, or has a trap.
+#[derive(Drop)]
 pub enum CommandReason<'a, A: Allocator> {
     /// The session isn't there yet.
     NotCreated,
@@ -51,6 +54,8 @@ pub enum CommandReason<'a, A: Allocator> {
     NoMatch(Option<&'a Function<A>>),
     /// Functions match, but none that is exported.
     NoExportedMatch,
+    /// It is done, and its specification has this trap.
+    HasTrap(SpecTrap<A>),
 }
 
 /// The first of the terms that is no flag.
@@ -191,14 +196,14 @@ fn function_reason<'a, A: Allocator + Copy>(
 }
 
 /// Why a live session refuses the command, or matches no function.
-fn live_reason<'a, A: Allocator + Copy>(
+fn live_failure<'a, A: Allocator + Copy>(
     alloc: A,
     functions: &'a [Function<A>],
     look: &Look<'_, A>,
     command: &'a Command<A>,
 ) -> Result<Option<CommandReason<'a, A>>, AllocError>
     ensures { IfOk result (λ r.
-        HasLiveReason functions.now (look_seen look.now) (command_of command.now) (command_reasons_seen r)) }
+        HasLiveFailure functions.now (look_seen look.now) (command_of command.now) (command_reasons_seen r)) }
 {
     match command {
         Command::SessionCreate { .. } => Ok(Some(CommandReason::ExistsAlready)),
@@ -224,6 +229,25 @@ fn live_reason<'a, A: Allocator + Copy>(
     }
 }
 
+/// Why a live session refuses the command or matches no function; of a command that it does, the trap.
+fn live_reason<'a, A: Allocator + Copy>(
+    alloc: A,
+    functions: &'a [Function<A>],
+    look: &Look<'_, A>,
+    command: &'a Command<A>,
+) -> Result<Option<CommandReason<'a, A>>, AllocError>
+    ensures { IfOk result (λ r.
+        HasLiveReason functions.now (look_seen look.now) (command_of command.now) (command_reasons_seen r)) }
+{
+    if let Some(why) = live_failure(alloc, functions, look, command)? {
+        return Ok(Some(why));
+    }
+    match trap_reason(alloc, functions, command)? {
+        Some(trap) => Ok(Some(CommandReason::HasTrap(trap))),
+        None => Ok(None),
+    }
+}
+
 /// Why a session that isn't there refuses the command.
 pub fn absent_reason<'a, A: Allocator>(command: &Command<A>) -> Option<CommandReason<'a, A>>
     ensures { command_reasons_seen result ≡ absent_reason (command_of command.now) }
@@ -244,7 +268,8 @@ fn destroyed_reason<'a, A: Allocator>(command: &Command<A>) -> Option<CommandRea
     }
 }
 
-/// Why the session refuses the command, or matches no function; None where it does it. An error is refused memory.
+/// Why the session refuses the command, matches no function or has a trap by it; None where it does it as it was meant.
+/// An error is refused memory.
 pub fn command_reason<'a, A: Allocator + Copy>(
     alloc: A,
     session: &Option<Session<A>>,

@@ -20,7 +20,8 @@ pub struct Expectation<'a> {
     pub lines: &'a [&'a str],
     /// The output must have none of these lines.
     pub no_lines: &'a [&'a str],
-    /// No command may be refused or match no function, and the script must have forms. This isn't about the output.
+    /// No command may be refused, match no function or have a trap, and the script must have forms. This isn't about
+    /// the output.
     pub strict: bool,
 }
 

@@ -61,7 +61,7 @@ abbrev pub SlotsSeeEvent : {A : Type 0} → Step → Event A → List (Slot A Di
 SlotsSeeEvent step event old new text text' result =
     (o : Exports) (living : Alive) → SlotsMake step o living (alive_after living (event_of event)) (event_item (event_of event)) old new text text' result
 
--- why the session of the slot refuses a command that is its own, or matches no function by it
+-- why the session of the slot refuses a command that is its own, matches no function or has a trap by it
 abbrev pub SlotHasReason : {A : Type 0} → Order A → Slot A Discard → Option CommandReason → Type 0
 SlotHasReason order slot r =
     (o : Exports) → o.functions ≡ visible (functions_of order.functions.now) → (s : NamedSession) → HasState o (alive_of order.living) s slot

@@ -68,8 +68,8 @@ pub(crate) fn tell_each<A: Allocator + Copy>(
     Ok(())
 }
 
-/// Why the session refuses a command that is its own, or matches no function by it. Of another's command nothing is
-/// said.
+/// Why the session refuses a command that is its own, matches no function or has a trap by it. Of another's command
+/// nothing is said.
 fn reason_of_one<'a, A: Allocator + Copy>(
     alloc: A,
     slot: &Slot<A, Discard>,

@@ -5,3 +5,4 @@ pub mod EmptyScripts
 pub mod CommandStarts
 pub mod Remarks
 pub mod LongRuns
+pub mod ProgramTraps

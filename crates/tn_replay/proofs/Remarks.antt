@@ -14,7 +14,7 @@ use Rattle.def_run.specs.Run.{HistoryItem, event_item, command_item, PickStep, m
 use Rattle.def_run.specs.History.{NamedSession, session_in, moments_from}
 use Rattle.def_run.proofs.Replay.{moves_bounded}
 use Rattle.def_explain.specs.CommandReasons.{CommandReason, command_reason}
-use Rattle.def_explain.specs.Remarks.{reasons_in, run_reasons, remarks_after, remarks, is_some_remark, has_remarks, has_reason_line, reply_and_reason}
+use Rattle.def_explain.specs.Remarks.{reasons_in, run_reasons, remarks_after, remarks, is_some_remark, has_remarks, has_traps, has_reason_line, reply_and_reason}
 use Rattle.def_explain.proofs.Remarks.{reasons_by, reasons_from, of_moments, of_events, reasons_by_picks, reasons_again, moves_have_the_remarks, nothing_after_commands, no_reason_line_no_remark}
 use Rattle.def_run.specs.Listing.{replies, lines_of}
 use Rattle.def_text.specs.Tokens.{TokenSpan, Tokens}
@@ -162,11 +162,11 @@ lines_said name bytes starts p picks = lines_after name bytes starts 0 (run_reas
 pub front_has : (p : Program) (picks front : List ℕ) → IsFrontOfPicks picks front → remarks p front ≡ remarks p picks
 front_has p picks front h = sym (nothing_after_commands p front h.0 h.2) ∙ ap (remarks p) (sym h.1)
 
--- where no line of the replies begins as one with a reason
-pub quiet_run : (p : Program) (picks text : List ℕ) (t : TranscriptValue) → t ≡ transcript_of p picks → text ≡ t.replied → has_reason_line true text ≡ false → false ≡ has_remarks p picks
-quiet_run p picks text t is at none =
+-- where no line of the replies begins as one with a reason, and no specification has a trap
+pub quiet_run : (p : Program) (picks text : List ℕ) (t : TranscriptValue) → t ≡ transcript_of p picks → text ≡ t.replied → has_reason_line true text ≡ false → has_traps p ≡ false → false ≡ has_remarks p picks
+quiet_run p picks text t is at none no_trap =
     let lines : text ≡ lines_of (replies p picks) = at ∙ ap (λ (u : TranscriptValue). u.replied) is in
-    sym (ap is_some_remark (no_reason_line_no_remark p picks (ap (has_reason_line true) (sym lines) ∙ none)))
+    sym (ap is_some_remark (no_reason_line_no_remark p picks (ap (has_reason_line true) (sym lines) ∙ none) no_trap))
 
 -- the journal up to the last command
 pub journal_has : (p : Program) (picks journal front : List ℕ) (t : TranscriptValue) → t ≡ transcript_of p picks → journal ≡ t.journal → IsFrontOfPicks journal front → remarks p front ≡ remarks p picks

@@ -22,7 +22,7 @@ use Rattle.tn_replay.specs.declared.replay.ReplayOutcome.TheVariants.{Listed, Re
 abbrev pub note_seen : NodeNote → definition.NodeNote
 note_seen n = record { differing = n.differing; moves = n.moves }
 
--- the notes of the program's run by these picks: what a running node does otherwise, and whether a command is refused or matches no function
+-- the notes of the program's run by these picks: what a running node does otherwise, and whether a command is refused, matches no function or has a trap
 pub record AreNotes (p : Program) (picks : List ℕ) (notes : RunNotes) : Type 0 where
   pub node : option_map note_seen notes.node ≡ node_note p picks
   pub remarks : notes.has_remarks ≡ has_remarks p picks

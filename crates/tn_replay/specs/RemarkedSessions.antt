@@ -21,7 +21,7 @@ use Rattle.tn_trace.specs.NamedSessions.{HasState}
 use Rattle.tn_trace.specs.declared.discard.Discard.{Discard}
 use Rattle.tn_replay.specs.declared.remark_observer.RemarkObserver.{RemarkObserver}
 
--- why the session of a command among these refuses it, or matches no function by it, over these functions
+-- why the session of a command among these refuses it, matches no function or has a trap by it, over these functions
 abbrev pub SlotsHaveReason : {A : Type 0} → List (Function A) → List (Slot A Discard) → Command → Option CommandReason → Type 0
 SlotsHaveReason functions slots c r =
     (o : Exports) → o.functions ≡ visible (functions_of functions) → (living : Alive) (ss : List NamedSession) → EachPair (HasState o living) ss slots

@@ -1,4 +1,5 @@
-//! A run by a schedule, with its notes or without: what a running node does otherwise, and which commands are refused.
+//! A run by a schedule, with its notes or without: what a running node does otherwise, and which commands are refused,
+//! match no function or have a trap.
 //!
 //! Depends on tn_moves, tn_run, tn_running_node, tn_command_reason, tn_remark and def_explain. Promises that the job
 //! `Replay` writes the defined output, and that its notes and the lines of remarks are the defined ones.
@@ -13,6 +14,7 @@ mod remark_observer;
 mod replay;
 mod reply_lines;
 mod run_remarks;
+mod traps;
 
 pub use empty_scripts::has_no_forms;
 pub use laws::a_run_with_a_note_is_a_run;

@@ -26,7 +26,7 @@ pub struct NodeNote {
 pub struct RunNotes {
     /// That a running node does some of its moves otherwise.
     pub node: Option<NodeNote>,
-    /// Whether one of its commands is refused, or matches no function.
+    /// Whether one of its commands is refused, matches no function or has a trap.
     pub has_remarks: bool,
 }
 

@@ -1,4 +1,4 @@
-// Why the commands of a run are refused or match no function, as it takes them.
+// Why the commands of a run are refused, match no function or have a trap, as it takes them.
 ghost use Rattle.std.specs.Prelude.{◌≡◌, IfOk, map};
 ghost use Rattle.std.specs.Option.{option_map};
 ghost use Rattle.def_explain.specs.Remarks.{run_reasons, reply_and_reason, has_remarks};
@@ -23,7 +23,7 @@ pub(crate) struct RemarkObserver<A: Allocator> {
     pub recorder: Recorder<A, Discard>,
 }
 
-/// Why the session of a command refuses it, or matches no function by it.
+/// Why the session of a command refuses it, matches no function or has a trap by it.
 fn reason_among<'a, A: Allocator + Copy>(
     alloc: A,
     slots: &Vec<Slot<A, Discard>, A>,
@@ -110,7 +110,7 @@ impl<A: Allocator + Copy> Observer<A> for RemarkObserver<A> {
 }
 
 /// Of each command of the program's run by these picks, in order, the reply with why it is this one, where the command
-/// is refused or matches no function.
+/// is refused, matches no function or has a trap.
 pub(crate) fn command_texts<A: Allocator + Copy>(
     alloc: A,
     program: &Program<A>,
@@ -138,7 +138,7 @@ fn has_text<A: Allocator>(texts: &Vec<Option<Vec<u8, A>>, A>) -> bool
     false
 }
 
-/// Whether a command of the program's run by these picks is refused, or matches no function.
+/// Whether a command of the program's run by these picks is refused, matches no function or has a trap.
 pub(crate) fn program_has_remarks<A: Allocator + Copy>(
     alloc: A,
     program: &Program<A>,

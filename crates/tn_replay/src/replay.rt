@@ -1,5 +1,5 @@
 // A run by a schedule, with its notes or without.
-ghost use Rattle.std.specs.Prelude.{◌≡◌, ◌<◌, IfOk, IsErrOf};
+ghost use Rattle.std.specs.Prelude.{◌≡◌, ◌<◌, false, IfOk, IsErrOf};
 ghost use Rattle.def_explain.specs.Remarks.{has_remarks};
 ghost use Rattle.tn_program.specs.Views.{program_of};
 ghost use Rattle.tn_trace.specs.Transcripts.{listing_bytes};
@@ -13,6 +13,7 @@ use crate::note::{RunNotes, node_note};
 use crate::remark_observer::program_has_remarks;
 use crate::reply_lines::has_reason_line;
 use crate::run_remarks::front_of_picks;
+use crate::traps::has_traps;
 use std::alloc::{AllocError, Allocator};
 use tn_listing::{PicksFault, transcript_output};
 use tn_moves::{MovesFault, Plan, Schedule, transcript_of_plan};
@@ -39,8 +40,24 @@ pub enum ReplayOutcome {
     Refused(RunRefusal),
 }
 
-/// Whether something is remarked of the run of this transcript. Where no line of the replies
-/// begins as one that has a reason nothing is run, and else up to the last command.
+/// Whether something can be remarked of the run of this transcript: a line of the replies begins as that of a command
+/// that isn't done, or a specification has a trap.
+fn can_have_remarks<A: Allocator + Copy>(
+    alloc: A,
+    program: &Program<A>,
+    transcript: &Transcript<A>,
+) -> Result<bool, AllocError>
+    ensures { OnItsPicks program.now transcript.now
+        (λ p picks. IfOk result (λ b. b ≡ false → false ≡ has_remarks p picks)) }
+{
+    if has_reason_line(transcript.replies()) {
+        return Ok(true);
+    }
+    has_traps(alloc, program)
+}
+
+/// Whether something is remarked of the run of this transcript. Where nothing can be nothing is run, and else up to the
+/// last command.
 fn has_remarks<A: Allocator + Copy>(
     alloc: A,
     program: &Program<A>,
@@ -48,7 +65,8 @@ fn has_remarks<A: Allocator + Copy>(
 ) -> Result<bool, AllocError>
     ensures { OnItsPicks program.now transcript.now (λ p picks. IfOk result (λ b. b ≡ has_remarks p picks)) }
 {
-    if !has_reason_line(transcript.replies()) {
+    let is_possible = can_have_remarks(alloc, program, transcript)?;
+    if !is_possible {
         return Ok(false);
     }
     program_has_remarks(alloc, program, front_of_picks(transcript.journal()))

@@ -53,7 +53,7 @@ fn program_lines<A: Allocator + Copy>(
 }
 
 /// The lines of what is remarked of the run of a whole text with this name by these picks: of each command that is
-/// refused or matches no function where it begins, its number, its reply and why it is this one.
+/// refused, matches no function or has a trap where it begins, its number, its reply and why it is this one.
 ///
 /// # Errors
 ///
@@ -120,7 +120,7 @@ pub fn schedule_remark_lines<A: Allocator + Copy>(
     }
 }
 
-/// Whether a command of the run of a whole text by these picks is refused, or matches no function.
+/// Whether a command of the run of a whole text by these picks is refused, matches no function or has a trap.
 ///
 /// # Errors
 ///

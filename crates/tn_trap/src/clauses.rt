@@ -2,10 +2,10 @@
 ghost use Rattle.std.specs.Prelude.{◌≡◌, ◌==◌};
 ghost use Rattle.std.specs.List.{list_any};
 ghost use Rattle.def_spec.specs.Reading.{found_in, table};
+ghost use Rattle.def_trap.specs.Actions.{is_of_calls};
 ghost use Rattle.def_trap.specs.Traps.{action_named, action_trap, body_trap, clause_trap, first_in_body};
 ghost use Rattle.def_trap.specs.Traps.{first_trap, head_trap, is_action, length_trap};
 ghost use Rattle.def_trap.specs.Traps.{is_action_name, marks_call, named_action};
-ghost use Rattle.def_explain.specs.Differences.{is_of_calls};
 ghost use Rattle.tn_term.specs.Views.{tree_of};
 ghost use Rattle.tn_spec.specs.Names.{called_seen};
 ghost use Rattle.tn_spec.specs.Views.{action_of, clause_seen, dialect_of, expr_seen, exprs_seen, head_seen};

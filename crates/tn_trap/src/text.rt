@@ -1,9 +1,10 @@
 // The line of a trap.
 ghost use Rattle.std.specs.Prelude.{◌≡◌, ◌++◌, OnOk};
-ghost use Rattle.def_explain.specs.Spellings.{action_name};
+ghost use Rattle.def_trap.specs.Actions.{action_name};
 ghost use Rattle.def_trap.specs.TrapTexts.{body_trap_text, clause_trap_text, matched_text};
 ghost use Rattle.def_trap.specs.TrapTexts.{no_call_text, no_flag_trap_text, trap_text};
 ghost use Rattle.tn_term.specs.Views.{tree_of};
+ghost use Rattle.tn_text.specs.Writes.{Grows};
 ghost use Rattle.tn_spec.specs.Views.{action_of, dialect_of};
 ghost use Rattle.tn_trap.specs.Views.{body_trap_seen, trap_seen};
 
@@ -57,8 +58,9 @@ fn put_no_flag<A: Allocator, B: Allocator>(
     term: &Term<A>,
     out: &mut Vec<u8, B>,
 ) -> Result<(), AllocError>
-    ensures { OnOk result (out.new.items ≡
+    ensures ok { OnOk result (out.new.items ≡
         out.old.items ++ no_flag_trap_text (action_of action) (tree_of term.now)) }
+    ensures grows { Grows out.old.items out.new.items }
 {
     out.extend_from_slice(action_name(action))?;
     out.extend_from_slice(b" has no effect, ")?;
@@ -73,8 +75,9 @@ fn put_body_trap<A: Allocator, B: Allocator>(
     trap: BodyTrap<'_, A>,
     out: &mut Vec<u8, B>,
 ) -> Result<(), AllocError>
-    ensures { OnOk result (out.new.items ≡
+    ensures ok { OnOk result (out.new.items ≡
         out.old.items ++ body_trap_text (dialect_of dialect) (body_trap_seen trap.entry)) }
+    ensures grows { Grows out.old.items out.new.items }
 {
     match trap {
         BodyTrap::NamesAction(name) => {
@@ -97,7 +100,8 @@ fn put_trap<A: Allocator, B: Allocator>(
     trap: Trap<'_, A>,
     out: &mut Vec<u8, B>,
 ) -> Result<(), AllocError>
-    ensures { OnOk result (out.new.items ≡ out.old.items ++ trap_text (dialect_of dialect) (trap_seen trap.entry)) }
+    ensures ok { OnOk result (out.new.items ≡ out.old.items ++ trap_text (dialect_of dialect) (trap_seen trap.entry)) }
+    ensures grows { Grows out.old.items out.new.items }
 {
     match trap {
         Trap::OfHead { elements } => {
@@ -126,8 +130,9 @@ pub fn write_trap<A: Allocator, B: Allocator>(
     trap: Trap<'_, A>,
     out: &mut Vec<u8, B>,
 ) -> Result<(), AllocError>
-    ensures { OnOk result (out.new.items ≡
+    ensures ok { OnOk result (out.new.items ≡
         out.old.items ++ clause_trap_text (dialect_of dialect) before (trap_seen trap.entry)) }
+    ensures grows { Grows out.old.items out.new.items }
 {
     out.extend_from_slice(b"clause ")?;
     write_next(before, out)?;

@@ -8,7 +8,7 @@ use Rattle.def_term.specs.Text.{w, comma_list, each_after_comma, atom_text, is_w
 use Rattle.def_spec.specs.Expressions.{Action, message, return_trace, exception_trace, silent, enable_trace, disable_trace, trace, caller}
 use Rattle.def_spec.specs.Reading.{Callee, Row, row}
 use Rattle.def_explain.specs.ReasonTexts.{row_counts, tuple_text, no_function_text, other_name_text, meant_in, common_slips, with_count}
-use Rattle.def_explain.specs.Spellings.{action_name}
+use Rattle.def_trap.specs.Actions.{action_name}
 use Rattle.tn_spec.specs.declared.table.Row as code
 use Rattle.tn_spec.specs.Names.{row_seen, row_of}
 use Rattle.tn_verdict.specs.SpecReasonTexts.{counts_of}

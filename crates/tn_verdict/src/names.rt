@@ -1,7 +1,8 @@
 // The names of functions and actions, as they are written.
 ghost use Rattle.std.specs.Prelude.{◌≡◌};
 ghost use Rattle.def_term.specs.Text.{atom_text};
-ghost use Rattle.def_explain.specs.Spellings.{function_name, action_name};
+ghost use Rattle.def_trap.specs.Actions.{action_name};
+ghost use Rattle.def_explain.specs.Spellings.{function_name};
 ghost use Rattle.tn_spec.specs.Views.{func_of, action_of};
 
 use tn_spec::{Action, Func};

@@ -11,11 +11,11 @@ returns-in-NoMatch-clause-ok g c =
     let o = c.args.out.now.items in
     let last = c.extend_from_slice.new.self.items in
     let done = c.extend_from_slice.result in
-    read_as done o (codes "0") (w (reply_of (command_reason_seen c.args.why))) last (sym (ap (λ r. w (reply_of (command_reason_seen r))) c.in-NoMatch.is ∙ zero_text)) (put_ok done o (codes "0") last c.extend_from_slice.ensures.items)
+    read_as done o (codes "0") (w (reply_of (command_reason_seen c.args.why.now))) last (sym (ap (λ r. w (reply_of (command_reason_seen r))) c.in-NoMatch.is ∙ zero_text)) (put_ok done o (codes "0") last c.extend_from_slice.ensures.items)
 
 pub returns-in-NoExportedMatch-clause-ok : goal.returns-in-NoExportedMatch-clause-ok
 returns-in-NoExportedMatch-clause-ok g c =
     let o = c.args.out.now.items in
     let last = c.extend_from_slice-in-NoExportedMatch.new.self.items in
     let done = c.extend_from_slice-in-NoExportedMatch.result in
-    read_as done o (codes "0") (w (reply_of (command_reason_seen c.args.why))) last (sym (ap (λ r. w (reply_of (command_reason_seen r))) c.in-NoExportedMatch.is ∙ zero_text)) (put_ok done o (codes "0") last c.extend_from_slice-in-NoExportedMatch.ensures.items)
+    read_as done o (codes "0") (w (reply_of (command_reason_seen c.args.why.now))) last (sym (ap (λ r. w (reply_of (command_reason_seen r))) c.in-NoExportedMatch.is ∙ zero_text)) (put_ok done o (codes "0") last c.extend_from_slice-in-NoExportedMatch.ensures.items)

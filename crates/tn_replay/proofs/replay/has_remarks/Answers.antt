@@ -1,12 +1,11 @@
-use Rattle.std.proofs.Common.{◌≡◌, ◌∙◌, IfOk, sym, subst}
+use Rattle.std.proofs.Common.{◌≡◌, IfOk, subst}
 use Rattle.def_explain.specs.Remarks.{is_some_remark}
 use Rattle.tn_program.specs.Views.{program_of}
-use Rattle.tn_replay.proofs.Remarks.{quiet_run, journal_has}
+use Rattle.tn_replay.proofs.Remarks.{journal_has}
 use Rattle.tn_replay.proofs.replay.has_remarks.Goals as goal
 
-pub returns-then-not-has_reason_line : goal.returns-then-not-has_reason_line
-returns-then-not-has_reason_line g c = λ picks is.
-    quiet_run (program_of c.args.program.now) picks c.replies.result.now c.args.transcript.now is c.replies.ensures (sym c.has_reason_line.ensures ∙ c.if-not-has_reason_line.true)
+pub returns-then-not-is_possible : goal.returns-then-not-is_possible
+returns-then-not-is_possible g c = λ picks is. c.in_ok-is_possible.ensures picks is c.if-not-is_possible.true
 
 pub returns : goal.returns
 returns g c = λ picks is.

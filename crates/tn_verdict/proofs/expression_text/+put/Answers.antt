@@ -1,7 +1,8 @@
 use Rattle.std.proofs.Common.{◌∙◌, [], ◌∷◌, ◌++◌, codes, ap}
 use Rattle.def_term.specs.Text.{comma_list, each_after_comma}
 use Rattle.def_spec.specs.Expressions as ex
-use Rattle.def_explain.specs.Spellings.{function_name, action_name}
+use Rattle.def_trap.specs.Actions.{action_name}
+use Rattle.def_explain.specs.Spellings.{function_name}
 use Rattle.tn_spec.specs.Views.{func_of, action_of, expr_seen, expr_list}
 use Rattle.tn_spec.proofs.Views.{expr_seen_whole_list, expr_seen_all_bound, expr_seen_tuple, expr_seen_list, expr_seen_call, expr_seen_and_also, expr_seen_or_else, expr_seen_perform}
 use Rattle.tn_verdict.specs.ExpressionTexts.{spelled_list}

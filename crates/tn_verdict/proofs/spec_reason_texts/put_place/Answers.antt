@@ -1,6 +1,6 @@
 use Rattle.std.proofs.Common.{◌∙◌, ◌++◌, codes, ap, ap₂}
 use Rattle.def_explain.specs.ReasonTexts.{bodies_text}
-use Rattle.def_explain.specs.Spellings.{action_name}
+use Rattle.def_trap.specs.Actions.{action_name}
 use Rattle.tn_spec.specs.Views.{action_of}
 use Rattle.tn_text.proofs.Growth.{grows_on}
 use Rattle.tn_verdict.proofs.Pieces.{behind, after_ok, read_as, put_ok, grown_by, grown_or_not}
