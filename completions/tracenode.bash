@@ -18,7 +18,7 @@ _tracenode() {
         *,=) before=${COMP_WORDS[COMP_CWORD - 1]} word= ;;
     esac
     if [ "$COMP_CWORD" -eq 1 ]; then
-        words='run replay round workers explain draw spec help -h --help -V --version'
+        words='run replay round workers explain draw spec fun help -h --help -V --version'
         case ${COMP_WORDS[0]} in
             */*) words+=' --prove --install --release' ;;
         esac
@@ -68,7 +68,8 @@ _tracenode() {
                 words+=' --expect --expect-line --reject-line --strict --max-output -h --help'
                 ;;
             spec) words='--list --for --me --caller --json --file -h --help' ;;
-            help) words='run replay round workers explain draw spec' ;;
+            fun) words='--for -h --help' ;;
+            help) words='run replay round workers explain draw spec fun' ;;
         esac
     fi
     COMPREPLY=($(compgen -W "$words" -- "$word"))

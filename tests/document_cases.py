@@ -22,7 +22,7 @@ from harness import SECONDS, START, TOP, check, run
 # The options of ./tracenode, which are not the program's.
 STARTS = {"--prove", "--install", "--release"}
 
-COMMANDS = (("run",), ("replay",), ("round",), ("workers",), ("explain",), ("draw",), ("spec",))
+COMMANDS = (("run",), ("replay",), ("round",), ("workers",), ("explain",), ("draw",), ("spec",), ("fun",))
 
 
 def documents():
@@ -185,6 +185,7 @@ def completions():
             (("tracenode", "replay", "\"scripts/two w"), ["scripts/two words.term"]),
             (("tracenode", "workers", "--quiet", "scr"), ["scripts"]),
             (("tracenode", "spec", "--for", "s"), ["send"]),
+            (("tracenode", "fun", "--for", "r"), ["receive"]),
             (("tracenode", "replay", "scr"), ["scripts"]),
             (("tracenode", "replay", "scripts/tw"), ["scripts/twice.term", "scripts/two words.term"]),
             (("tracenode", "replay", "scripts/two\\ w"), ["scripts/two words.term"]),

@@ -197,8 +197,11 @@ def version():
 
 
 # The list that says what each command of the program takes, and the words that are no options.
-TAKEN = {"run": "RUN", "replay": "REPLAY", "round": "ROUND", "workers": "WORKERS", "explain": "EXPLAIN", "draw": "DRAW", "spec": "TRIAL"}
-BARE_WORDS = {"script", "specification"}
+TAKEN = {
+    "run": "RUN", "replay": "REPLAY", "round": "ROUND", "workers": "WORKERS", "explain": "EXPLAIN", "draw": "DRAW",
+    "spec": "TRIAL", "fun": "FUN_ARGUMENTS",
+}
+BARE_WORDS = {"script", "specification", "fun"}
 
 
 def taken_options():

@@ -21,6 +21,7 @@ import document_cases
 import explanation_cases
 import failure_cases
 import format_cases
+import fun_cases
 import harness
 import moves_cases
 import picture_cases
@@ -63,6 +64,7 @@ SUBJECTS = {
         specification_cases.functions,
         specification_cases.specifications,
     ),
+    "fun": (fun_cases.fun_specifications, fun_cases.fun_refusals, fun_cases.fun_limits, fun_cases.fun_table),
     "format": (format_cases.formats, format_cases.schema),
     "bound": (
         bound_cases.bounds,

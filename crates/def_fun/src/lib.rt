@@ -5,7 +5,7 @@
 //! that are read are spelled by the tokens; the variables of a head are numbered in order, and each is
 //! bound; computing an operator of constants changes no value; each guard of a clause is a clause of the
 //! specification, with the same head and body; and what is translated for receives is translated for
-//! sends, and for calls, to the same term. No command uses it yet.
+//! sends, and for calls, to the same term.
 #![tactic(auto)]
 
 mod laws;

@@ -25,10 +25,11 @@ use Rattle.tn_request.specs.declared.request.RunSource.TheVariants.{ByPicks, ByR
 use Rattle.tn_request.specs.declared.request.ExpectationArgs.{ExpectationArgs}
 use Rattle.tn_request.specs.declared.request.SessionArgs.{SessionArgs}
 use Rattle.tn_request.specs.declared.request.SpecTestArgs.{SpecTestArgs}
+use Rattle.tn_request.specs.declared.request.FunArgs.{FunArgs}
 use Rattle.tn_request.specs.declared.request.RunRequest.{RunRequest}
 use Rattle.tn_request.specs.declared.request.RunRequest.TheVariants.{Replay, Explain, Draw, Round}
 use Rattle.tn_request.specs.declared.request.Request.{Request}
-use Rattle.tn_request.specs.declared.request.Request.TheVariants.{Run, Workers, Spec}
+use Rattle.tn_request.specs.declared.request.Request.TheVariants.{Run, Workers, Spec, Fun}
 
 -- the text that the command line gives for this name
 abbrev pub argument : ArgMatches → List ℕ → Option (List ℕ)
@@ -158,6 +159,10 @@ IsTrialOf m t =
     × IsTextOf (argument m (codes "specification")) t.specification
     × IsTextOf (argument m (codes "file")) t.file
 
+-- the event that `--for` names, and the fun that is given
+abbrev pub IsFunOf : ArgMatches → FunArgs → Type 0
+IsFunOf m f = (f.dialect ≡ dialect_named (unwrap_or (argument m (codes "for")) (codes "call"))) × IsTextOf (argument m (codes "fun")) f.text
+
 -- a source that is given is the one that the text names
 abbrev pub IsSourceOrNone : Option (List ℕ) → Option Source → Type 0
 IsSourceOrNone None s = s ≡ None
@@ -206,6 +211,7 @@ Asks name m (Workers w) =
     × IsNumberOrNone {E = Unit {0}} (argument m (codes "spread")) (Ok w.spread)
     × (w.quiet ≡ is_given m (codes "quiet")) × IsExpectationOf m w.expectation
 Asks name m (Spec trial) = (name ≡ codes "spec") × IsTrialOf m trial
+Asks name m (Fun fun) = (name ≡ codes "fun") × IsFunOf m fun
 
 -- the run is a round, whose limit is no number or is out of its bounds
 abbrev pub LacksLimit : ArgMatches → Type 0
@@ -235,7 +241,7 @@ pub record IsWithoutNumber (m : ArgMatches) : Type 0 where
 abbrev pub NamesNoCommand : ArgMatches → Type 0
 NamesNoCommand m =
     (subcommand_name_of m ≢ Some (codes "run")) × (subcommand_name_of m ≢ Some (codes "replay")) × (subcommand_name_of m ≢ Some (codes "explain")) × (subcommand_name_of m ≢ Some (codes "draw")) × (subcommand_name_of m ≢ Some (codes "round"))
-    × (subcommand_name_of m ≢ Some (codes "workers")) × (subcommand_name_of m ≢ Some (codes "spec"))
+    × (subcommand_name_of m ≢ Some (codes "workers")) × (subcommand_name_of m ≢ Some (codes "spec")) × (subcommand_name_of m ≢ Some (codes "fun"))
 
 -- the subcommand that was found asks for it
 pub record IsAskedBy (m : ArgMatches) (ask : Request) : Type 0 where

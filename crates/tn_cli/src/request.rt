@@ -14,8 +14,8 @@ use tn_command::{Source, plain_number, source_of};
 use tn_explain::Filter;
 use tn_picture::PictureFormat;
 use tn_request::{
-    ExpectationArgs, PicksSource, Request, RunRequest, RunSource, SessionArgs, SpecTestArgs,
-    WorkersRequest,
+    ExpectationArgs, FunArgs, PicksSource, Request, RunRequest, RunSource, SessionArgs,
+    SpecTestArgs, WorkersRequest,
 };
 use tn_spec::Dialect;
 
@@ -319,6 +319,16 @@ fn spec<'s, 'a: 's>(matches: &'s ArgMatches<'a>) -> Result<Request<'s>, BadNumbe
     }))
 }
 
+/// What `fun` asks for.
+fn fun<'s, 'a: 's>(matches: &'s ArgMatches<'a>) -> Request<'s>
+    ensures { Asks (codes "fun") matches.now result }
+{
+    Request::Fun(FunArgs {
+        dialect: dialect_of(matches.get_str("for").unwrap_or("call")),
+        text: matches.get_str("fun"),
+    })
+}
+
 /// What the command line asks for, by the subcommand that it names; None where it names none.
 pub fn request_of<'s, 'a: 's>(
     matches: &'s ArgMatches<'a>,
@@ -335,6 +345,7 @@ pub fn request_of<'s, 'a: 's>(
         Some(("round", given)) => Ok(Some(round(given)?)),
         Some(("workers", given)) => Ok(Some(workers(given)?)),
         Some(("spec", given)) => Ok(Some(spec(given)?)),
+        Some(("fun", given)) => Ok(Some(fun(given))),
         _ => Ok(None),
     }
 }

@@ -127,6 +127,10 @@ WORKERS = codes "script" ∷ codes "n" ∷ codes "turns" ∷ codes "spread" ∷ 
 abbrev pub TRIAL : List (List ℕ)
 TRIAL = codes "list" ∷ codes "for" ∷ codes "me" ∷ codes "caller" ∷ codes "json" ∷ codes "file" ∷ codes "specification" ∷ []
 
+-- the arguments of `fun`
+abbrev pub FUN_ARGUMENTS : List (List ℕ)
+FUN_ARGUMENTS = codes "for" ∷ codes "fun" ∷ []
+
 -- the commands of the program
 abbrev pub COMMAND_NAMES : List (List ℕ)
-COMMAND_NAMES = codes "run" ∷ codes "replay" ∷ codes "round" ∷ codes "workers" ∷ codes "explain" ∷ codes "draw" ∷ codes "spec" ∷ []
+COMMAND_NAMES = codes "run" ∷ codes "replay" ∷ codes "round" ∷ codes "workers" ∷ codes "explain" ∷ codes "draw" ∷ codes "spec" ∷ codes "fun" ∷ []

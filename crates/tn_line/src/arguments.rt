@@ -362,7 +362,7 @@ pub(crate) fn list<'a>(alloc: Global) -> Arg<'a>
 }
 
 /// What the specification of `spec` is for.
-const EVENTS: &[&str] = &["call", "send", "receive"];
+pub(crate) const EVENTS: &[&str] = &["call", "send", "receive"];
 
 /// `--for EVENT`.
 pub(crate) fn event<'a>(alloc: Global) -> Arg<'a>

@@ -11,6 +11,7 @@ use crate::arguments::{
     picks, picks_file, picks_or_round, quiet, reject_line, script, session, spec_file,
     specification, spread, strict, summary, text, turns, without_picks, worker_count,
 };
+use crate::fun_command::fun;
 use clap::{ArgGroup, Command};
 use std::alloc::{AllocError, Global};
 
@@ -29,7 +30,8 @@ Examples:
 Exit status:
   0  the output was written
   1  the output was written, and isn't what --expect, --expect-session, --expect-line or --reject-line
-     says, or a command is refused or matches no function under --strict
+     says, or a command is refused, matches no function or has a match specification that does
+     nothing, under --strict
   2  the script, the picks or the command line is refused
   3  a fault: a failed read or write, a lack of memory, or an output past --max-output";
 
@@ -231,5 +233,6 @@ pub fn command<'a>(alloc: Global) -> Result<Command<'a>, AllocError>
     let command = with_subcommand(command, workers(alloc))?;
     let command = with_subcommand(command, explain(alloc))?;
     let command = with_subcommand(command, draw(alloc))?;
-    with_subcommand(command, spec(alloc))
+    let command = with_subcommand(command, spec(alloc))?;
+    with_subcommand(command, fun(alloc))
 }

@@ -7,5 +7,6 @@
 
 mod arguments;
 mod commands;
+mod fun_command;
 
 pub use commands::command;

@@ -13,14 +13,14 @@ use Rattle.tn_request.specs.declared.request.TextSource.{TextSource}
 use Rattle.tn_request.specs.declared.request.TextSource.TheVariants.{Specification}
 use Rattle.tn_request.specs.declared.request.ExpectationArgs.{ExpectationArgs}
 use Rattle.tn_request.specs.declared.request.Request.{Request}
-use Rattle.tn_request.specs.declared.request.Request.TheVariants.{Run, Workers, Spec}
-use Rattle.tn_request.specs.InputsAsked.{input_pair_seen, both_inputs, if_some, first_two, two_of, of_source, text_input, expected_inputs, shared_input}
-use Rattle.tn_request.specs.RequestParts.{script_asked, text_source_asked, spec_text_source, IsRequestExpectation}
+use Rattle.tn_request.specs.declared.request.Request.TheVariants.{Run, Workers, Spec, Fun}
+use Rattle.tn_request.specs.InputsAsked.{input_pair_seen, both_inputs, input_list, first_two, first_two_of_four, of_source, text_input, expected_inputs, shared_input}
+use Rattle.tn_request.specs.RequestParts.{script_asked, text_source_asked, spec_text_source, IsRequestExpectation, IsAnyOutput}
 
 -- ---- of four texts
 
 by_turns : (a b c d : Option InputText) → option_or (option_or (both_inputs a b) (both_inputs (option_or a b) c)) (both_inputs (option_or (option_or a b) c) d)
-    ≡ first_two (if_some a ++ if_some b ++ (if_some c ++ if_some d))
+    ≡ first_two (input_list a ++ input_list b ++ (input_list c ++ input_list d))
 by_turns None None None None = refl
 by_turns None None None (Some d) = refl
 by_turns None None (Some c) None = refl
@@ -48,7 +48,7 @@ pub first_of_four : (a b c d : Option code.InputText) (one two three : Option (c
     → option_map input_pair_seen two ≡ both_inputs (option_map input_text_seen (option_or a b)) (option_map input_text_seen c)
     → option_map input_pair_seen three ≡ both_inputs (option_map input_text_seen (option_or (option_or a b) c)) (option_map input_text_seen d)
     → option_map input_pair_seen (option_or (option_or one two) three)
-    ≡ two_of (option_map input_text_seen a) (option_map input_text_seen b) (option_map input_text_seen c) (option_map input_text_seen d)
+    ≡ first_two_of_four (option_map input_text_seen a) (option_map input_text_seen b) (option_map input_text_seen c) (option_map input_text_seen d)
 first_of_four a b c d one two three is_one is_two is_three =
     let f = option_map input_text_seen in
     let either = map_or input_text_seen a b in
@@ -76,32 +76,37 @@ of_specification (Some path) specification = refl
 of_specification None None = refl
 of_specification None (Some words) = by_test (bytes_eq words.now (codes "-"))
 
+-- nothing is read where nothing is expected
+none_expected : (e : ExpectationArgs) → IsAnyOutput e → first_two (expected_inputs e) ≡ None
+none_expected e is =
+    ap (λ x. first_two (input_list (of_source x the_output) ++ input_list (of_source (option_map (λ words. words.source) e.session) the_listing))) is.output
+    ∙ ap (λ x. first_two (input_list (of_source (option_map (λ words. words.source) x) the_listing))) is.session
+
 -- the texts by the parts of a request are those of the request
 pub texts_by_parts : (r : Request) (e : ExpectationArgs) → IsRequestExpectation r e
-    → first_two (if_some (of_source (script_asked r) the_script) ++ if_some (text_input (text_source_asked r)) ++ expected_inputs e) ≡ shared_input r
+    → first_two (input_list (of_source (script_asked r) the_script) ++ input_list (text_input (text_source_asked r)) ++ expected_inputs e) ≡ shared_input r
 texts_by_parts (Run run) e is =
-    ap (λ x. first_two (if_some (of_source (script_asked (Run run)) the_script) ++ if_some (text_input (text_source_asked (Run run))) ++ expected_inputs x)) is
+    ap (λ x. first_two (input_list (of_source (script_asked (Run run)) the_script) ++ input_list (text_input (text_source_asked (Run run))) ++ expected_inputs x)) is
 texts_by_parts (Workers workers) e is =
-    let script = if_some (of_source (Some workers.script) the_script) in
+    let script = input_list (of_source (Some workers.script) the_script) in
     ap (λ x. first_two (x ++ expected_inputs e)) (no_more script)
     ∙ ap (λ x. first_two (script ++ expected_inputs x)) is
 texts_by_parts (Spec trial) e is =
-    ap (λ x. first_two (if_some x ++ expected_inputs e)) (of_specification trial.file trial.specification)
-    ∙ ap (λ x. first_two (if_some (of_source x the_output) ++ if_some (of_source (option_map (λ words. words.source) e.session) the_listing))) is.output
-    ∙ ap (λ x. first_two (if_some (of_source (option_map (λ words. words.source) x) the_listing))) is.session
+    ap (λ x. first_two (input_list x ++ expected_inputs e)) (of_specification trial.file trial.specification) ∙ none_expected e is
+texts_by_parts (Fun fun) e is = ap (λ x. first_two (input_list x ++ expected_inputs e)) (of_specification None fun.text) ∙ none_expected e is
 
 -- the same, by what is seen of the parts
 pub texts_seen : (r : Request) (e : ExpectationArgs) (script : Option Source) (text : Option TextSource) (listing : Option Source) (a b c d : Option code.InputText)
     → IsRequestExpectation r e → script ≡ script_asked r → text ≡ text_source_asked r → listing ≡ option_map (λ words. words.source) e.session
     → option_map input_text_seen a ≡ of_source script the_script → option_map input_text_seen b ≡ text_input text
     → option_map input_text_seen c ≡ of_source e.output the_output → option_map input_text_seen d ≡ of_source listing the_listing
-    → two_of (option_map input_text_seen a) (option_map input_text_seen b) (option_map input_text_seen c) (option_map input_text_seen d) ≡ shared_input r
+    → first_two_of_four (option_map input_text_seen a) (option_map input_text_seen b) (option_map input_text_seen c) (option_map input_text_seen d) ≡ shared_input r
 texts_seen r e script text listing a b c d is is_script is_text is_listing one two three four =
     let f = option_map input_text_seen in
     let script_so = of_source (script_asked r) the_script in
     let text_so = text_input (text_source_asked r) in
-    ap (λ x. two_of x (f b) (f c) (f d)) (one ∙ ap (λ x. of_source x the_script) is_script)
-    ∙ ap (λ x. two_of script_so x (f c) (f d)) (two ∙ ap text_input is_text)
-    ∙ ap (λ x. two_of script_so text_so x (f d)) three
-    ∙ ap (λ x. two_of script_so text_so (of_source e.output the_output) x) (four ∙ ap (λ x. of_source x the_listing) is_listing)
+    ap (λ x. first_two_of_four x (f b) (f c) (f d)) (one ∙ ap (λ x. of_source x the_script) is_script)
+    ∙ ap (λ x. first_two_of_four script_so x (f c) (f d)) (two ∙ ap text_input is_text)
+    ∙ ap (λ x. first_two_of_four script_so text_so x (f d)) three
+    ∙ ap (λ x. first_two_of_four script_so text_so (of_source e.output the_output) x) (four ∙ ap (λ x. of_source x the_listing) is_listing)
     ∙ texts_by_parts r e is

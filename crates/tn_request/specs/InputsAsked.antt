@@ -8,7 +8,7 @@ use Rattle.tn_command.specs.declared.source.Source.{Source}
 use Rattle.tn_command.specs.declared.source.Source.TheVariants.{Input, File}
 use Rattle.tn_request.specs.declared.request.ExpectationArgs.{ExpectationArgs}
 use Rattle.tn_request.specs.declared.request.Request.{Request}
-use Rattle.tn_request.specs.declared.request.Request.TheVariants.{Run, Workers, Spec}
+use Rattle.tn_request.specs.declared.request.Request.TheVariants.{Run, Workers, Spec, Fun}
 use Rattle.tn_request.specs.declared.request.TextSource.{TextSource}
 use Rattle.tn_request.specs.declared.request.TextSource.TheVariants.{Picks, Moves, Specification}
 use Rattle.tn_request.specs.RequestParts.{run_expectation, script_asked, text_source_asked}
@@ -27,19 +27,20 @@ text_input (Some (Moves source)) = of_source (Some source) the_moves
 text_input (Some (Specification source)) = None
 
 -- the list of what is there
-abbrev pub if_some : Option InputText → List InputText
-if_some None = []
-if_some (Some text) = text ∷ []
+abbrev pub input_list : Option InputText → List InputText
+input_list None = []
+input_list (Some text) = text ∷ []
 
 -- what is expected
 abbrev pub expected_inputs : ExpectationArgs → List InputText
-expected_inputs e = if_some (of_source e.output the_output) ++ if_some (of_source (option_map (λ words. words.source) e.session) the_listing)
+expected_inputs e = input_list (of_source e.output the_output) ++ input_list (of_source (option_map (λ words. words.source) e.session) the_listing)
 
--- all that a request reads from standard input; of a trial nothing is expected
+-- all that a request reads from standard input; of a trial or a fun nothing is expected
 abbrev pub inputs_asked : Request → List InputText
-inputs_asked (Run run) = if_some (of_source (script_asked (Run run)) the_script) ++ if_some (text_input (text_source_asked (Run run))) ++ expected_inputs (run_expectation run)
-inputs_asked (Workers workers) = if_some (of_source (Some workers.script) the_script) ++ expected_inputs workers.expectation
+inputs_asked (Run run) = input_list (of_source (script_asked (Run run)) the_script) ++ input_list (text_input (text_source_asked (Run run))) ++ expected_inputs (run_expectation run)
+inputs_asked (Workers workers) = input_list (of_source (Some workers.script) the_script) ++ expected_inputs workers.expectation
 inputs_asked (Spec trial) = []
+inputs_asked (Fun fun) = []
 
 -- the first two of these texts
 abbrev pub first_two : List InputText → Option (InputText × InputText)
@@ -57,8 +58,8 @@ abbrev pub both_inputs : Option InputText → Option InputText → Option (Input
 both_inputs one other = option_and_then (λ a. option_map (λ b. (a, b)) other) one
 
 -- the first two of four that may be there
-abbrev pub two_of : (a b c d : Option InputText) → Option (InputText × InputText)
-two_of a b c d = first_two (if_some a ++ if_some b ++ (if_some c ++ if_some d))
+abbrev pub first_two_of_four : (a b c d : Option InputText) → Option (InputText × InputText)
+first_two_of_four a b c d = first_two (input_list a ++ input_list b ++ (input_list c ++ input_list d))
 
 abbrev pub input_pair_seen : code.InputText × code.InputText → InputText × InputText
 input_pair_seen p = (input_text_seen p.0, input_text_seen p.1)

@@ -12,7 +12,7 @@ use Rattle.tn_request.specs.declared.request.RunSource.TheVariants.{ByPicks, ByR
 use Rattle.tn_request.specs.declared.request.RunRequest.{RunRequest}
 use Rattle.tn_request.specs.declared.request.RunRequest.TheVariants.{Replay, Explain, Draw, Round}
 use Rattle.tn_request.specs.declared.request.Request.{Request}
-use Rattle.tn_request.specs.declared.request.Request.TheVariants.{Run, Workers, Spec}
+use Rattle.tn_request.specs.declared.request.Request.TheVariants.{Run, Workers, Spec, Fun}
 use Rattle.tn_request.specs.declared.request.TextSource.{TextSource}
 use Rattle.tn_request.specs.declared.request.TextSource.TheVariants.{Picks, Moves, Specification}
 
@@ -30,11 +30,12 @@ run_script (Explain script run filter e) = script
 run_script (Draw script run format e) = script
 run_script (Round script limit control_first quiet e) = script
 
--- where the script of a request is; a trial has none
+-- where the script of a request is; a trial and a fun have none
 abbrev pub script_asked : Request → Option Source
 script_asked (Run run) = Some (run_script run)
 script_asked (Workers workers) = Some workers.script
 script_asked (Spec trial) = None
+script_asked (Fun fun) = None
 
 -- nothing is said of the output
 pub record IsAnyOutput (e : ExpectationArgs) : Type 0 where
@@ -44,11 +45,12 @@ pub record IsAnyOutput (e : ExpectationArgs) : Type 0 where
   pub no_lines : e.no_lines.now ≡ []
   pub strict : e.strict ≡ false
 
--- what the output of a request must be: anything, of a trial
+-- what the output of a request must be: anything, of a trial or a fun
 abbrev pub IsRequestExpectation : Request → ExpectationArgs → Type 0
 IsRequestExpectation (Run run) e = e ≡ run_expectation run
 IsRequestExpectation (Workers workers) e = e ≡ workers.expectation
 IsRequestExpectation (Spec trial) e = IsAnyOutput e
+IsRequestExpectation (Fun fun) e = IsAnyOutput e
 
 -- the text of picks or of moves that is to be read: none where it is given
 abbrev pub picks_source_asked : PicksSource → Option TextSource
@@ -69,7 +71,7 @@ run_text_source (Explain script run filter e) = run_source_asked run
 run_text_source (Draw script run format e) = run_source_asked run
 run_text_source (Round script limit control_first quiet e) = None
 
--- the specification is to be read where a file has it, or where none is given, or `-` is
+-- the specification is to be read where a file has it, or where none is given, or `-` is; the fun too
 abbrev pub spec_text_source : (file specification : Option (Bor (List ℕ))) → Option TextSource
 spec_text_source (Some path) specification = Some (Specification (File path))
 spec_text_source None None = Some (Specification Input)
@@ -80,3 +82,4 @@ abbrev pub text_source_asked : Request → Option TextSource
 text_source_asked (Run run) = run_text_source run
 text_source_asked (Workers workers) = None
 text_source_asked (Spec trial) = spec_text_source trial.file trial.specification
+text_source_asked (Fun fun) = spec_text_source None fun.text

@@ -15,11 +15,11 @@ use Rattle.tn_request.specs.declared.job.RequestOutcome.{RequestOutcome}
 use Rattle.tn_request.specs.declared.job.RequestOutcome.TheVariants as outcomes
 use Rattle.tn_request.specs.declared.request.RunRequest.{RunRequest}
 
--- it is said of the script with these bytes whether it has no forms, or a command of its run by the picks that are asked is refused or matches no function
+-- it is said of the script with these bytes whether it has no forms, or a command of its run by the picks that are asked is refused, matches no function or has a trap
 abbrev pub IsFlawOf : ScheduleView → List ℕ → Bool → Type 0
 IsFlawOf a bytes flawed = OfScript bytes (λ p. OfPicks a p (λ picks. flawed ≡ has_flaw bytes p picks))
 
--- of a run that is listed; its notes say whether a command is refused or matches no function
+-- of a run that is listed; its notes say whether a command is refused, matches no function or has a trap
 abbrev pub IsListingFlaw : ScheduleView → ReplayOutcome → List ℕ → Bool → Type 0
 IsListingFlaw a (replayed.Listed None) bytes flawed = IsFlawOf a bytes flawed
 IsListingFlaw a (replayed.Listed (Some notes)) bytes flawed = flawed ≡ (is_gap false bytes || notes.has_remarks)

@@ -7,6 +7,7 @@ ghost use Rattle.tn_command.specs.Status.{IsStatus, OnFaultUntouchedOrFailed, Wr
 ghost use Rattle.tn_request.specs.TaskFlaws.{flaw_asked};
 ghost use Rattle.tn_request.specs.Tasks.{job_asked};
 
+use crate::fun_text::fun_text_of;
 use crate::job::{RequestOutcome, format_of, job_of};
 use crate::request::{Request, RunRequest};
 use crate::trial::spec_input_of;
@@ -24,6 +25,7 @@ use tn_command::{
     perform_over, print_over, test_specs,
 };
 use tn_expectation::Expectation;
+use tn_fun_command::print_fun;
 use tn_run::RunFault;
 use tn_text::Watched;
 
@@ -140,5 +142,6 @@ pub fn answer_request<R: Input + Files + Print + Eprint + AllocGlobal + Threads 
             trial.lists,
             form.format,
         ),
+        Request::Fun(fun) => print_fun(rt, fun_text_of(fun, read), fun.dialect),
     }
 }

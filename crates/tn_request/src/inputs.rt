@@ -3,7 +3,7 @@ ghost use Rattle.std.specs.Prelude.{◌≡◌};
 ghost use Rattle.std.specs.Option.{option_map};
 ghost use Rattle.tn_notice.specs.NoticeViews.{input_text_seen};
 ghost use Rattle.tn_request.specs.InputsAsked.{both_inputs, input_pair_seen, of_source, shared_input, text_input};
-ghost use Rattle.tn_request.specs.InputsAsked.{two_of};
+ghost use Rattle.tn_request.specs.InputsAsked.{first_two_of_four};
 
 use crate::output::listing_source;
 use crate::request::{Request, TextSource};
@@ -46,7 +46,7 @@ fn first_two(
     output: Option<InputText>,
     listing: Option<InputText>,
 ) -> Option<(InputText, InputText)>
-    ensures { option_map input_pair_seen result ≡ two_of (option_map input_text_seen script)
+    ensures { option_map input_pair_seen result ≡ first_two_of_four (option_map input_text_seen script)
         (option_map input_text_seen text) (option_map input_text_seen output) (option_map input_text_seen listing) }
 {
     let first = script.or(text);

@@ -5,6 +5,7 @@
 #![tactic(auto)]
 
 mod answer;
+mod fun_text;
 mod inputs;
 mod job;
 mod output;
@@ -14,11 +15,12 @@ mod trial;
 mod workers;
 
 pub use answer::{answer_request, perform_request_over, print_request_over};
+pub use fun_text::fun_text_of;
 pub use job::{RequestJob, RequestOutcome, format_of, job_of};
 pub use output::{ExpectedTexts, expectation_of, expected_texts};
 pub use request::{
-    ExpectationArgs, PicksSource, Request, RunRequest, RunSource, SessionArgs, SpecTestArgs,
-    TextSource, WorkersRequest,
+    ExpectationArgs, FunArgs, PicksSource, Request, RunRequest, RunSource, SessionArgs,
+    SpecTestArgs, TextSource, WorkersRequest,
 };
 pub use schedule::schedule_of;
 pub use trial::spec_input_of;

@@ -1,5 +1,5 @@
 // What the command line asks for.
-ghost use Rattle.std.specs.Prelude.{◌≡◌};
+ghost use Rattle.std.specs.Prelude.{◌≡◌, None};
 
 use tn_command::Source;
 use tn_explain::Filter;
@@ -53,6 +53,14 @@ pub struct SessionArgs<'a> {
     pub name: &'a str,
     /// Where its listing is.
     pub source: Source<'a>,
+}
+
+/// What is asked of a fun, in the words of `fun`.
+#[derive(Clone, Copy)]
+pub struct FunArgs<'a> {
+    pub dialect: Dialect,
+    /// The fun, where it isn't standard input.
+    pub text: Option<&'a str>,
 }
 
 /// What an output must be, in the words of the command line.
@@ -138,6 +146,8 @@ pub enum Request<'a> {
     Workers(WorkersRequest<'a>),
     /// A trial of a match specification.
     Spec(SpecTestArgs<'a>),
+    /// The specification of a fun.
+    Fun(FunArgs<'a>),
 }
 
 /// A text that a request needs beside the script, and where it is.
@@ -145,6 +155,7 @@ pub enum Request<'a> {
 pub enum TextSource<'a> {
     Picks(Source<'a>),
     Moves(Source<'a>),
+    /// A match specification, or a fun.
     Specification(Source<'a>),
 }
 
@@ -235,28 +246,42 @@ impl<'a> SpecTestArgs<'a> {
     }
 }
 
+impl<'a> FunArgs<'a> {
+    ghost use Rattle.tn_request.specs.RequestParts.{spec_text_source};
+
+    /// The text of the fun, where it is to be read.
+    fn text_source(&self) -> Option<TextSource<'a>>
+        ensures { result ≡ spec_text_source None self.now.text }
+    {
+        match self.text {
+            None | Some("-") => Some(TextSource::Specification(Source::Input)),
+            Some(_) => None,
+        }
+    }
+}
+
 impl<'a> Request<'a> {
     ghost use Rattle.tn_request.specs.RequestParts.{IsRequestExpectation, script_asked, text_source_asked};
 
-    /// What the output must be; anything, of a trial.
+    /// What the output must be; anything, of a trial or a fun.
     pub fn expectation(&self) -> ExpectationArgs<'a>
         ensures { IsRequestExpectation self.now result }
     {
         match *self {
             Request::Run(run) => run.expectation(),
             Request::Workers(workers) => workers.expectation,
-            Request::Spec(_) => ANY_OUTPUT,
+            Request::Spec(_) | Request::Fun(_) => ANY_OUTPUT,
         }
     }
 
-    /// Where the script is read from; a trial has none.
+    /// Where the script is read from; a trial and a fun have none.
     pub fn script(&self) -> Option<Source<'a>>
         ensures { result ≡ script_asked self.now }
     {
         match *self {
             Request::Run(run) => Some(run.script()),
             Request::Workers(workers) => Some(workers.script),
-            Request::Spec(_) => None,
+            Request::Spec(_) | Request::Fun(_) => None,
         }
     }
 
@@ -268,6 +293,7 @@ impl<'a> Request<'a> {
             Request::Run(run) => run.text_source(),
             Request::Workers(_) => None,
             Request::Spec(trial) => trial.text_source(),
+            Request::Fun(fun) => fun.text_source(),
         }
     }
 }

@@ -1,7 +1,7 @@
 use Rattle.std.proofs.Common.{◌≡◌, rules, codes, []}
 use Rattle.std.proofs.lemmas.Result.{IfOk-weaker}
 use Rattle.clap.specs.Built.{subcommand_names}
-use Rattle.tn_line.specs.Line.{RUN, REPLAY, EXPLAIN, DRAW, ROUND, WORKERS, TRIAL}
+use Rattle.tn_line.specs.Line.{RUN, REPLAY, EXPLAIN, DRAW, ROUND, WORKERS, TRIAL, FUN_ARGUMENTS}
 use Rattle.tn_line.proofs.Names.{command_made}
 use Rattle.tn_line.proofs.commands.command.Goals as goal
 
@@ -20,6 +20,8 @@ returns c =
     c.explain.ensures.arguments c.in_ok-command-6.ensures in
     let fifth = command_made _ (codes "draw") DRAW c.in_ok-command-6.command c.in_ok-command-7.command c.draw.result fourth
     c.draw.ensures.arguments c.in_ok-command-7.ensures in
-    IfOk-weaker c.with_subcommand-7.result _ _
-    (λ new added. command_made _ (codes "spec") TRIAL c.in_ok-command-7.command new c.spec.result fifth c.spec.ensures added)
-    c.with_subcommand-7.ensures
+    let sixth = command_made _ (codes "spec") TRIAL c.in_ok-command-7.command c.in_ok-command-8.command c.spec.result fifth
+    c.spec.ensures c.in_ok-command-8.ensures in
+    IfOk-weaker c.with_subcommand-8.result _ _
+    (λ new added. command_made _ (codes "fun") FUN_ARGUMENTS c.in_ok-command-8.command new c.fun.result sixth c.fun.ensures added)
+    c.with_subcommand-8.ensures

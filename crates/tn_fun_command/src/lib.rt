@@ -1,0 +1,13 @@
+//! The command `fun`: the specification of a fun's text on standard output, or its refusal.
+//!
+//! Depends on `tn_translation`, which answers a text, on `tn_run` and `tn_command` (ends and statuses) and
+//! on `tn_refusal` (lines and columns). Promises that the writer gains exactly the defined answer and a
+//! line feed, with status 0, or with status 2 beside the refusal; that a fault says what was written; and
+//! that what is said of a refusal is the defined line.
+#![tactic(auto)]
+
+mod command;
+mod notice;
+
+pub use command::{answer_fun_over, print_fun};
+pub use notice::put_notice;

@@ -1,0 +1,11 @@
+use Rattle.std.proofs.Common.{rules, codes, []}
+use Rattle.tn_line.specs.Line.{IsCommand}
+use Rattle.tn_line.proofs.Names.{one_more, one_more_so}
+use Rattle.tn_line.proofs.fun_command.fun.Goals as goal
+
+pub returns : goal.returns
+returns c =
+    let name = codes "fun" in
+    let bare : IsCommand name [] c.about.result = record { called = search rules; takes = search rules } in
+    let first = one_more name [] (codes "for") c.about.result c.in_ok-arg.field-0 c.fun_event.result bare c.fun_event.ensures.named.0 c.in_ok-arg.ensures in
+    one_more_so name _ (codes "fun") c.in_ok-arg.field-0 c.fun_text.result c.arg-2.result first c.fun_text.ensures.0 c.arg-2.ensures

@@ -1,0 +1,44 @@
+// The command `fun`, with its arguments.
+ghost use Rattle.std.specs.Prelude.{codes, IfOk};
+ghost use Rattle.tn_line.specs.Line.{IsCommand, IsElse, IsOption, IsWord, FUN_ARGUMENTS};
+
+use crate::arguments::EVENTS;
+use clap::{Arg, ArgAction, Command};
+use std::alloc::{AllocError, Global};
+
+/// `--for EVENT` of `fun`.
+fn fun_event<'a>(alloc: Global) -> Arg<'a>
+    ensures named { IsOption (codes "for") result }
+    ensures value { IsElse (codes "call") result }
+{
+    Arg::new(alloc, "for")
+        .long("for")
+        .value_name("EVENT")
+        .help("What the specification is for: call, send or receive")
+        .value_parser(EVENTS)
+        .default_value("call")
+        .action(ArgAction::Set)
+}
+
+/// The fun.
+fn fun_text<'a>(alloc: Global) -> Arg<'a>
+    ensures { IsWord (codes "fun") result }
+{
+    Arg::new(alloc, "fun")
+        .value_name("FUN")
+        .help("The fun, as dbg:fun2ms/1 takes it; standard input where it is absent or -")
+        .allow_hyphen_values(true)
+        .action(ArgAction::Set)
+}
+
+/// The subcommand `fun [--for EVENT] [FUN]`.
+pub(crate) fn fun<'a>(alloc: Global) -> Result<Command<'a>, AllocError>
+    ensures { IfOk result (IsCommand (codes "fun") FUN_ARGUMENTS) }
+{
+    Command::new(alloc, "fun")
+        .about(
+            "Prints the match specification of a fun, as dbg:fun2ms/1 has it, or why it has none",
+        )
+        .arg(fun_event(alloc))?
+        .arg(fun_text(alloc))
+}

@@ -1,0 +1,265 @@
+"""Cases of funs: the command `fun`, its specifications and its refusals. In a fun that is refused `^` is where."""
+import re
+
+from harness import TEXT_BYTES, TOP, check, run, wants
+
+# Each fun, and its specification.
+FUNS = (
+    ("fun([X,Y]) -> message(bindings()) end", "[{['$1','$2'],[],[{message,'$*'}]}]"),
+    ("fun([X]) -> {'$1','$_','$a','$',X} end", "[{['$1'],[],[{{{const,'$1'},{const,'$_'},{const,'$a'},{const,'$'},'$1'}}]}]"),
+    ("fun([X]) -> message({a,{X,{}},[{X}]}) end", "[{['$1'],[],[{message,{{a,{{'$1',{{}}}},[{{'$1'}}]}}}]}]"),
+    ("fun([X]) when X > 60 * 60 * 24 -> message(7 div 2 - 7 rem 2) end", "[{['$1'],[{'>','$1',86400}],[{message,2}]}]"),
+    (
+        'fun([X]) when "a" == "a", [97] == "a", "" == [] -> true end',
+        "[{['$1'],[{'==',[97],[97]},{'==',[97],[97]},{'==',[],[]}],[true]}]",
+    ),
+    ("fun([M,N]) when N > 3 -> return_trace() end", "[{['$1','$2'],[{'>','$2',3}],[{return_trace}]}]"),
+    ("fun(Args) when length(Args) > 6 -> true end", "[{'$1',[{'>',{length,'$1'},6}],[true]}]"),
+    ("fun([toy_table,_]) -> true end", "[{[toy_table,'_'],[],[true]}]"),
+    (
+        "fun([toy_table,{A,_}]) when is_atom(A) ->\n    message(caller())\nend",
+        "[{[toy_table,{'$1','_'}],[{is_atom,'$1'}],[{message,{caller}}]}]",
+    ),
+    ("fun([a,_] = A) -> A end", "[{[a,'_'],[],['$_']}]"),
+    ("fun([a,_]) -> object() end", "[{[a,'_'],[],['$_']}]"),
+    ("fun([toy_table,_]) -> return_trace() end", "[{[toy_table,'_'],[],[{return_trace}]}]"),
+    ("fun([A]) when is_atom(A) -> return_trace() end", "[{['$1'],[{is_atom,'$1'}],[{return_trace}]}]"),
+    ("fun([_,_]) -> true end", "[{['_','_'],[],[true]}]"),
+    (
+        "fun([X]) when X == 1; X == 2 -> message(X) end",
+        "[{['$1'],[{'==','$1',1}],[{message,'$1'}]},{['$1'],[{'==','$1',2}],[{message,'$1'}]}]",
+    ),
+    (
+        "fun([X]) when is_atom(X), X =/= a; is_list(X); X > 3, X < 9 -> true; (_) -> message(false) end",
+        "[{['$1'],[{is_atom,'$1'},{'=/=','$1',a}],[true]},{['$1'],[{is_list,'$1'}],[true]},"
+        "{['$1'],[{'>','$1',3},{'<','$1',9}],[true]},{'_',[],[{message,false}]}]",
+    ),
+    ("fun(All = [X]) -> {All,X} end", "[{['$1'],[],[{{'$_','$1'}}]}]"),
+    (
+        "fun([{B,A},[A,C],_,_X]) -> {A,B,C,_X} end",
+        "[{[{'$1','$2'},['$2','$3'],'_','$4'],[],[{{'$2','$1','$3','$4'}}]}]",
+    ),
+    ("fun([X,Y,X]) -> Y end", "[{['$1','$2','$1'],[],['$2']}]"),
+    # Tokens: blanks, comments, a full stop, integers, characters, escapes, atoms and strings.
+    (" % c\nfun ( [ ] )\t->\r\n true end . % d", "[{[],[],[true]}]"),
+    ("fun(_)->true end.", "[{'_',[],[true]}]"),
+    ("fun([007,$a,$\\n,$\\s,$',-1,- 2]) -> 9223372036854775807 end", "[{[7,97,10,32,39,-1,-2],[],[9223372036854775807]}]"),
+    ("fun(['a b',a@B_1,'\\'\\\\']) -> 'end' end", "[{['a b',a@B_1,'\\'\\\\'],[],['end']}]"),
+    ('fun(["a\\"b\\t", "c" "d", ""]) -> "e" "f" end', "[{[[97,34,98,9],[99,100],[]],[],[[101,102]]}]"),
+    ("fun([X]) -> X=<-1 end", "[{['$1'],[],[{'=<','$1',-1}]}]"),
+    # Levels.
+    ("fun([X,Y]) -> not X == Y end", "[{['$1','$2'],[],[{'==',{'not','$1'},'$2'}]}]"),
+    ("fun([X,Y,Z]) -> X or Y and Z end", "[{['$1','$2','$3'],[],[{'or','$1',{'and','$2','$3'}}]}]"),
+    ("fun([X,Y]) -> X == 1 and Y end", "[{['$1','$2'],[],[{'==','$1',{'and',1,'$2'}}]}]"),
+    ("fun([X,Y,Z]) -> X - Y - Z end", "[{['$1','$2','$3'],[],[{'-',{'-','$1','$2'},'$3'}]}]"),
+    ("fun([X,Y,Z]) -> X - (Y - Z) end", "[{['$1','$2','$3'],[],[{'-','$1',{'-','$2','$3'}}]}]"),
+    ("fun([X,Y,Z]) -> X andalso Y andalso Z end", "[{['$1','$2','$3'],[],[{'andalso','$1',{'andalso','$2','$3'}}]}]"),
+    ("fun([X,Y,Z]) -> X andalso Y orelse Z end", "[{['$1','$2','$3'],[],[{'orelse',{'andalso','$1','$2'},'$3'}]}]"),
+    ("fun([X,Y]) -> bnot X * Y end", "[{['$1','$2'],[],[{'*',{'bnot','$1'},'$2'}]}]"),
+    # Names, heads and patterns.
+    ("fun(X) -> X end", "[{'$1',[],['$1']}]"),
+    ("fun(N = V) -> {N,V} end", "[{'$1',[],[{{'$_','$1'}}]}]"),
+    ("fun([X,_] = _) -> {X,_} end", "[{['$1','$_'],[],[{{'$1','$_'}}]}]"),
+    ("fun([X,Y] = X) -> Y end", "[{['$_','$1'],[],['$1']}]"),
+    ("fun(_) -> message(_) end", "[{'_',[],[{message,'_'}]}]"),
+    ("fun(['$_','$$','$a','$',{a,{}}]) -> true end", "[{['$_','$$','$a','$',{a,{}}],[],[true]}]"),
+    ('fun([a|[b|"c"]]) -> [a|[b|("c")]] end', "[{[a,b,99],[],[[a,b,99]]}]"),
+    ("fun([X]) -> true; ([Y,X]) -> X end", "[{['$1'],[],[true]},{['$1','$2'],[],['$2']}]"),
+    # Constants.
+    ("fun([X]) -> 1 + 2 + X, X + 1 + 2 end", "[{['$1'],[],[{'+',3,'$1'},{'+',{'+','$1',1},2}]}]"),
+    ("fun([X]) -> 1 div 0 > X, not 1 end", "[{['$1'],[],[{'>',{'div',1,0},'$1'},{'not',1}]}]"),
+    ("fun(_) -> -7 div 2, -7 rem 2, 6 band 3, 6 bor 3, 6 bxor 3, bnot 5, - -3 end", "[{'_',[],[-3,-1,2,7,5,-6,3]}]"),
+    ("fun(_) -> 1 < a, [a|[b]] == [a,b], {} =:= {a}, a >= b, [$a] == \"a\" end", "[{'_',[],[true,true,false,false,{'==',[97],[97]}]}]"),
+    ("fun(_) -> true and false, true or false, true xor true, not true, true and 1 end", "[{'_',[],[false,true,false,false,{'and',true,1}]}]"),
+    ("fun(_) -> true andalso false, true orelse false end", "[{'_',[],[{'andalso',true,false},{'orelse',true,false}]}]"),
+    ("fun(_) -> '$1' == '$1', -9223372036854775808 end", "[{'_',[],[true,-9223372036854775808]}]"),
+    # Functions and actions.
+    (
+        "fun([X,Y]) when abs(X) == element(1,Y), hd(X), tl(X), size(Y), node() == node(X), self() == Y -> true end",
+        "[{['$1','$2'],[{'==',{abs,'$1'},{element,1,'$2'}},{hd,'$1'},{tl,'$1'},{size,'$2'},{'==',{node},{node,'$1'}},"
+        "{'==',{self},'$2'}],[true]}]",
+    ),
+    (
+        "fun(_) -> exception_trace(), silent(true), enable_trace(call), enable_trace(self(),call), disable_trace(call),"
+        " disable_trace(self(),call), trace([],[call]), trace(self(),[],[call]) end",
+        "[{'_',[],[{exception_trace},{silent,true},{enable_trace,call},{enable_trace,{self},call},{disable_trace,call},"
+        "{disable_trace,{self},call},{trace,[],[call]},{trace,{self},[],[call]}]}]",
+    ),
+)
+
+# Each fun that is refused, and the line.
+REFUSED = (
+    ("fun([X]) when ^message(X) -> true end", "23 no function message/1"),
+    ("fun([X]) when X^<-1 -> true end", "21 no <-"),
+    ("fun([^<<X>>]) -> X end", "21 no <<"),
+    ("fun([X]) -> message(X), ^end", "2 token"),
+    ("fun([X]) -> ^display(X) end", "24 unsupported display"),
+    ("fun([X]) -> ^end", "2 token"),
+    ("fun([X]) -> ^fun(Y) -> Y end end", "21 no fun"),
+    ("fun(^{X}) -> X end", "2 token"),
+    ("fun([X|^_]) -> X end", "26 list with a tail"),
+    ("fun([X]) -> Y ^= X, message(Y) end", "21 no ="),
+    ("fun([X]) -> ^maybe X end end", "21 no maybe"),
+    ("fun ^F([X]) -> X end", "2 token"),
+    ("fun([X]) -> X^", "2 token"),
+    ("fun([X]) when ^+X > 1 -> true end", "2 token"),
+    ("fun([X]) when erlang^:element(1,X) == a -> true end", "21 no :"),
+    ("fun([X]) when X ^bsl 1 > 1 -> true end", "21 no bsl"),
+    (f"fun([X]) -> ^{'[' * 30}X{']' * 30} end", "3 too deep"),
+    ("fun([X]) when ^tuple_size(X) == 2 -> true end", "23 no function tuple_size/1"),
+    ("fun([X]) when X > ^Limit -> true end", "22 unbound Limit"),
+    ("fun([X]) -> ^enable_trace(a,b,X) end", "23 no function enable_trace/3"),
+    # Tokens.
+    ("^", "2 token"),
+    ("fun(_) -> ^1.5 end", "21 no float"),
+    ("fun(_) -> ^16#ff end", "21 no number"),
+    ("fun(_) -> ^1_000 end", "21 no number"),
+    ("fun(_) -> ^\"a\"\"b\" end", "2 token"),
+    ("fun(_) -> ^'a end", "2 token"),
+    ("fun(_) -> ^\"\\x41\" end", "2 token"),
+    ("fun(_) -> ^'\\n' end", "2 token"),
+    ("fun(_) -> true end. ^a", "2 token"),
+    ("fun(_) -> true end^.a", "2 token"),
+    # The grammar.
+    ("fun([X]) -> 1 < X ^< 5 end", "2 token"),
+    ("fun(^([X])) -> X end", "2 token"),
+    ("fun([^X + 1]) -> X end".replace("^X +", "X ^+"), "2 token"),
+    ("fun([- ^- 1]) -> true end", "2 token"),
+    ("fun(X = Y ^= Z) -> X end", "21 no ="),
+    ("^foo", "2 token"),
+    # Limits.
+    ("fun(_) -> ^9223372036854775808 end", "4 too large"),
+    ("fun(_) -> -^9223372036854775809 end", "4 too large"),
+    ("fun(_) -> 9223372036854775807 ^+ 1 end", "4 too large"),
+    ("fun(_) -> 9223372036854775807 ^+ 1 - 1 end", "4 too large"),
+    ("fun(_) -> ^- (-9223372036854775807 - 1) end", "4 too large"),
+    (f"fun(_) -> ^{'a' * 256} end", "4 too large"),
+    (f"fun(^{'X' * 256}) -> true end", "4 too large"),
+    (f"fun(_) -> ^\"{'a' * 4097}\" end", "4 too large"),
+    (f"fun(_) -> \"{'a' * 4096}\" ^\"b\" end", "4 too large"),
+    (f"fun(_) -> {{{','.join('a' * 255)}^,a}} end", "4 too large"),
+    (f"fun(_) -> [{','.join('a' * 4096)}^,a] end", "4 too large"),
+    (f"fun(_) -> [{','.join('a' * 4095)}|^[a,b]] end", "4 too large"),
+    (f"fun(_) -> {'(' * 64}^(a{')' * 65} end", "3 too deep"),
+    (f"fun([X]) -> X{' + X' * 64} ^+ X end", "3 too deep"),
+    (f"fun(^{'[' * 31}{']' * 31}) -> true end", "3 too deep"),
+    (f"fun([{','.join(f'X{i}' for i in range(999))},^X999]) -> true end", "4 too large"),
+    (f"fun(_) when {'true;' * 4095}true^; true -> true end", "4 too large"),
+    (f"fun^(_) when {'a;' * 300}a -> \"{'a' * 4000}\" end", "4 too large"),
+    # Translation.
+    ("fun([^'$1']) -> true end", "25 head atom '$1'"),
+    ("fun([^'$01']) -> true end", "25 head atom '$01'"),
+    ("fun([^'$+1']) -> true end", "25 head atom '$+1'"),
+    ("fun([^'$-1']) -> true end", "25 head atom '$-1'"),
+    ("fun([X]) -> [a|^X] end", "26 list with a tail"),
+    ("fun([X]) -> ^-X end", "27 minus"),
+    ("fun([X]) -> ^- - X end".replace("^- - X", "- ^- X"), "27 minus"),
+    ("fun(N = ^N) -> true end", "28 whole head N"),
+    ("fun(_ = ^_) -> true end", "28 whole head _"),
+    # Which is first.
+    ("fun(N = ^N) when Z -> true end", "28 whole head N"),
+    ("fun([^'$1']) when Z -> true end", "25 head atom '$1'"),
+    ("fun([X]) when X; Z -> ^Y end", "22 unbound Y"),
+    ("fun([X]) when ^Z; X -> Y end", "22 unbound Z"),
+    ("fun([X]) -> ^display(Y) end", "24 unsupported display"),
+    ("fun([X]) -> ^foo(Y) end", "23 no function foo/1"),
+    ("fun([X]) -> ^Z + -Y end", "22 unbound Z"),
+    ("fun([X]) -> -^Y end", "22 unbound Y"),
+    # Names.
+    ("fun([X]) when ^is_boolean(X) -> true end", "23 no function is_boolean/1"),
+    ("fun([X]) when ^is_bitstring(X) -> true end", "23 no function is_bitstring/1"),
+    ("fun([X]) when ^is_record(X,a,2) -> true end", "24 unsupported is_record"),
+    ("fun([X]) when ^is_function(X,2) -> true end", "23 no function is_function/2"),
+    ("fun([X]) -> ^object(X) end", "23 no function object/1"),
+    ("fun([X]) -> ^'A b'(X) end", "23 no function 'A b'/1"),
+)
+
+# What standard error says of each refusal.
+WORDS = {
+    2: "no fun has this here, or the text ends too soon",
+    3: "this nests too deep",
+    4: "this is past a limit",
+    21: "a match specification has nothing for this",
+    22: "the head doesn't bind this variable; write a value in its place",
+    23: "no such function may be called here; actions are in bodies",
+    24: "this function isn't modelled",
+    25: "an atom of $ and a number is a variable in a head",
+    26: "a tail is a list or a string here",
+    27: "write 0 - X",
+    28: "both parts of the head are this variable",
+}
+
+# The words and symbols that are left out, each where an operand or an operator may be.
+LEFT_OUT_WORDS = "after begin case catch cond else if let maybe of receive try".split()
+LEFT_OUT_SYMBOLS = "<- <= << >> => := :: : ++ -- / || ... .. ?= ? ! # ~ bsl bsr".split()
+
+# Each event, and an action that its bodies haven't.
+LACKING = (("send", "caller()", 0), ("receive", "caller()", 0), ("receive", "silent(true)", 1), ("receive", "trace([],[])", 2))
+
+
+def fun_specifications():
+    """Funs that have a specification, what it is, and that `spec` takes it."""
+    for fun, spec in FUNS:
+        wants(f"fun {fun}", run(["fun", fun]), 0, f"{spec}\n".encode())
+        tried = run(["spec", "--list", "[a]", spec])
+        check(f"the specification of {fun}", tried.returncode == 0, tried)
+    fun, spec = FUNS[0]
+    wants("a fun from standard input", run(["fun"], f"{fun}\n".encode()), 0, f"{spec}\n".encode())
+    wants("a fun from -", run(["fun", "-"], fun.encode()), 0, f"{spec}\n".encode())
+    for event in ("call", "send", "receive"):
+        wants(f"a fun for {event}", run(["fun", "--for", event, fun]), 0, f"{spec}\n".encode())
+
+
+def fun_refusals():
+    """Funs that have none, and the line that says why and where."""
+    for marked, line in REFUSED:
+        at, fun = marked.index("^"), marked.replace("^", "")
+        ran = run(["fun"], fun.encode())
+        before = fun[:at].split("\n")
+        said = f"fun:{len(before)}:{len(before[-1]) + 1}: {WORDS[int(line.split()[0])]}\n"
+        wants(f"fun {marked[:80]}", ran, 2, f"refused {line} at {at}\n".encode(), said.encode())
+    for word in LEFT_OUT_WORDS:
+        wants(f"the word {word}", run(["fun", f"fun(_) -> {word} end"]), 2, f"refused 21 no {word} at 10\n".encode())
+    for symbol in LEFT_OUT_SYMBOLS:
+        ran = run(["fun", f"fun(X) -> X {symbol} 1 end"])
+        wants(f"the symbol {symbol}", ran, 2, f"refused 21 no {symbol} at 12\n".encode())
+    for event, call, count in LACKING:
+        name = call.partition("(")[0]
+        line = f"refused 23 no function {name}/{count} at 10\n".encode()
+        wants(f"{call} for {event}", run(["fun", "--for", event, f"fun(_) -> {call} end"]), 2, line)
+
+
+def fun_limits():
+    """Funs at a limit: at it they have a specification, past it the refusal is that of the limit."""
+    longest = "fun(_) -> true end".ljust(TEXT_BYTES)
+    wants("the longest fun", run(["fun"], longest.encode()), 0, b"[{'_',[],[true]}]\n")
+    said = b"fun: the text has more than 1048576 bytes\n"
+    wants("a fun that is too long", run(["fun"], f"{longest} ".encode()), 2, b"refused 1 too long\n", said)
+    inner = f"{'[' * 28}{']' * 28}"
+    wants("the deepest expression", run(["fun", f"fun(_) -> [{inner}] end"]), 0, f"[{{'_',[],[[{inner}]]}}]\n".encode())
+    inner = f"{'[' * 30}{']' * 30}"
+    wants("the deepest head", run(["fun", f"fun({inner}) -> true end"]), 0, f"[{{{inner},[],[true]}}]\n".encode())
+    names = ",".join(f"X{i}" for i in range(999))
+    atoms = ",".join(f"'${i + 1}'" for i in range(999))
+    wants("999 variables", run(["fun", f"fun([{names}]) -> true end"]), 0, f"[{{[{atoms}],[],[true]}}]\n".encode())
+    many = "1 + " * 43000
+    deep = run(["fun"], f"fun(_) -> {many}1 end".encode())
+    wants("many operators", deep, 2, b"refused 3 too deep at %d\n" % (10 + 4 * 64 + 2))
+    ones = ",".join(["1"] * 4096)
+    guards = ";".join(["a"] * 4096)
+    spec = ",".join(["{'_',[a],[1]}"] * 4096)
+    wants("the most clauses", run(["fun"], f"fun(_) when {guards} -> 1 end".encode()), 0, f"[{spec}]\n".encode())
+    long = run(["fun"], f"fun(_) when {guards} -> [{ones}] end".encode())
+    check("clauses past the length of a script", long.returncode == 2 and long.stdout == b"refused 4 too large at 3\n", long.stdout[:80])
+
+
+def fun_table():
+    """The manual's rows of tools for a running node: each fun of the first column is given the specification of the second."""
+    lines = (TOP / "docs" / "MANUAL.md").read_text().splitlines()
+    rows = [line.strip("| ").split(" | ") for line in lines if re.match(r"\| `(dbg|recon_trace):", line)]
+    funs = [(fun, right) for left, right in rows for fun in re.findall(r"fun\(.*? end(?=[,)}])", left)]
+    check("the manual has funs", len(funs) >= 5, funs)
+    for fun, right in funs:
+        made = run(["fun", fun])
+        text = made.stdout.decode().strip()
+        check(f"the manual's {fun}", made.returncode == 0 and text in right, made)
