@@ -102,3 +102,4 @@ complete -c tracenode -n '__fish_seen_subcommand_from spec' -l caller -x -d 'The
 complete -c tracenode -n '__fish_seen_subcommand_from spec' -l file -r -d 'The file of the specification'
 complete -c tracenode -n '__fish_seen_subcommand_from spec' -l json -d 'Print JSON'
 complete -c tracenode -n '__fish_seen_subcommand_from fun' -l for -x -a 'call send receive' -d 'What the specification is for'
+complete -c tracenode -n '__fish_seen_subcommand_from fun' -l pretty -d 'Print the fun of a specification'

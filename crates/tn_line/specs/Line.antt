@@ -129,7 +129,7 @@ TRIAL = codes "list" ∷ codes "for" ∷ codes "me" ∷ codes "caller" ∷ codes
 
 -- the arguments of `fun`
 abbrev pub FUN_ARGUMENTS : List (List ℕ)
-FUN_ARGUMENTS = codes "for" ∷ codes "fun" ∷ []
+FUN_ARGUMENTS = codes "for" ∷ codes "pretty" ∷ codes "fun" ∷ []
 
 -- the commands of the program
 abbrev pub COMMAND_NAMES : List (List ℕ)

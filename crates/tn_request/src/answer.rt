@@ -10,7 +10,7 @@ ghost use Rattle.tn_request.specs.Tasks.{job_asked};
 use crate::fun_text::fun_text_of;
 use crate::job::{RequestOutcome, format_of, job_of};
 use crate::request::{Request, RunRequest};
-use crate::trial::spec_input_of;
+use crate::trial::{spec_input_of, without_full_stop};
 use crate::workers::run_workers_request;
 use std::alloc::Allocator;
 use std::io;
@@ -25,7 +25,7 @@ use tn_command::{
     perform_over, print_over, test_specs,
 };
 use tn_expectation::Expectation;
-use tn_fun_command::print_fun;
+use tn_fun_command::{print_fun, print_fun_of_spec};
 use tn_run::RunFault;
 use tn_text::Watched;
 
@@ -142,6 +142,9 @@ pub fn answer_request<R: Input + Files + Print + Eprint + AllocGlobal + Threads 
             trial.lists,
             form.format,
         ),
+        Request::Fun(fun) if fun.pretty => {
+            print_fun_of_spec(rt, without_full_stop(fun_text_of(fun, read)), fun.dialect)
+        }
         Request::Fun(fun) => print_fun(rt, fun_text_of(fun, read), fun.dialect),
     }
 }

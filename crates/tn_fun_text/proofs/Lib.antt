@@ -1,0 +1,14 @@
+mod CallNames
+mod Loops
+mod Places
+mod Strings
+mod Heads
+mod ConstantValues
+mod Checks
+mod ClauseChecks
+mod ExprWritten
+mod NumberedAtoms
+mod PrintedFuns
+mod WrittenTexts
+mod LastWrites
+mod SpecTerms
