@@ -30,12 +30,10 @@ fn try_picks<A: Allocator + Copy, S: SearchState<A>>(
 {
     let mut moved = false;
     for pick in picks {
-        match state.step(*pick)? {
-            None => {}
-            Some(after) => {
-                next.add(after)?;
-                moved = true;
-            }
+        let mut after = state.share()?;
+        if after.advance(*pick)? {
+            next.add(after)?;
+            moved = true;
         }
     }
     Ok(moved)

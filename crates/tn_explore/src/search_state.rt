@@ -7,7 +7,7 @@ pub trait SearchState<A: Allocator>: Sized + Drop {
     ghost use Rattle.std.specs.Prelude.{◌≡◌, ℕ, List, IfOk};
     ghost use Rattle.def_explore.specs.Rests.{KeptMessages};
     ghost use Rattle.tn_explore.specs.Query.{Query};
-    ghost use Rattle.tn_explore.specs.SearchStates.{StepsTo, HasAllMoves, AreSame, KeepsFor, EqualsByKept};
+    ghost use Rattle.tn_explore.specs.SearchStates.{IsCopy, Advances, HasAllMoves, AreSame, KeepsFor, EqualsByKept};
 
     /// What is kept of its messages.
     type Observation: Eq + Hash + Drop;
@@ -25,9 +25,13 @@ pub trait SearchState<A: Allocator>: Sized + Drop {
     fn picks(&self, alloc: A) -> Result<Vec<u32, A>, AllocError>
         ensures { IfOk result (λ v. HasAllMoves journal is_of self.now v.items) };
 
-    /// The state after one more pick; None where it is idle.
-    fn step(&self, pick: u32) -> Result<Option<Self>, AllocError>
-        ensures { StepsTo journal is_of self.now pick result };
+    /// The same state, which shares what this one has.
+    fn share(&self) -> Result<Self, AllocError>
+        ensures { IfOk result (IsCopy journal is_of self.now) };
+
+    /// Takes one more pick: whether it moved.
+    fn advance(&mut self, pick: u32) -> Result<bool, AllocError>
+        ensures { IfOk result (Advances journal is_of pick self.old self.new) };
 
     /// Whether both are the same state. Where it is false they may be the same too.
     fn same(&self, other: &Self) -> bool

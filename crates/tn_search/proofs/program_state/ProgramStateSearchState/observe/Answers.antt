@@ -1,0 +1,21 @@
+use Rattle.std.proofs.Common.{◌≡◌, ◌∙◌, List, ap, sym, subst}
+use Rattle.std.proofs.lemmas.Result.{IfOk-weaker}
+use Rattle.def_term.specs.Tree.{Tree}
+use Rattle.tn_explore.specs.Query.{Query, kept_for}
+use Rattle.tn_messages.specs.MessageViews.{kept_seen, kept_lists}
+use Rattle.tn_trace.specs.declared.recorder.Recorder.{Recorder}
+use Rattle.tn_search.specs.Sessions.{AreSinksOf, AreKeptAt}
+use Rattle.tn_search.specs.States.{IsStateFor, state_journal}
+use Rattle.tn_search.proofs.Steps.{observed}
+use Rattle.tn_search.proofs.program_state.ProgramStateSearchState.observe.Goals as goal
+
+pub returns : goal.returns
+returns g c =
+    let Keeps = g.K.MessageSink.keeps in
+    let b = g.K.SearchSink.is_by_process in
+    let s = c.args.self.now in
+    let sinks = c.deref-2.result.now in
+    IfOk-weaker c.gather.result (λ l. (mss : List (List Tree)) → AreSinksOf Keeps mss sinks → kept_seen l ≡ kept_lists b mss) (λ l. (a : Query) → IsStateFor Keeps b s a → kept_seen l ≡ kept_for a (state_journal s))
+    (λ l gathers a is. observed Keeps b s a is sinks (kept_seen l) (subst (λ xs. AreKeptAt Keeps s.places.now xs sinks) (c.deref.ensures.value ∙ ap (λ (o : Recorder g.row.A.Denot g.row.K.Denot). o.slots.items) c.observer.ensures)
+        (subst (AreKeptAt Keeps s.places.now c.deref.result.now) (sym c.deref-2.ensures.value) c.in_ok-sinks.ensures)) gathers)
+    c.gather.ensures

@@ -1,0 +1,8 @@
+use Rattle.std.proofs.Common.{refl}
+use Rattle.tn_search.proofs.Steps.{shared}
+use Rattle.tn_search.proofs.program_state.ProgramStateSearchState.share.Goals as goal
+
+pub returns : goal.returns
+returns g c = λ a is.
+    let s = c.args.self.now in
+    shared g.K.MessageSink.keeps g.K.SearchSink.is_by_process s (record { alloc = s.alloc; program = s.program; places = s.places; run = c.in_ok-run.run' }) a is refl refl c.in_ok-run.ensures
