@@ -162,9 +162,12 @@ IsTrialOf m t =
     × IsTextOf (argument m (codes "specification")) t.specification
     × IsTextOf (argument m (codes "file")) t.file
 
--- the event that `--for` names, and the fun that is given
+-- the event that `--for` names, whether `--pretty` is given, and the text
 abbrev pub IsFunOf : ArgMatches → FunArgs → Type 0
-IsFunOf m f = (f.dialect ≡ dialect_named (unwrap_or (argument m (codes "for")) (codes "call"))) × IsTextOf (argument m (codes "fun")) f.text
+IsFunOf m f =
+    (f.dialect ≡ dialect_named (unwrap_or (argument m (codes "for")) (codes "call")))
+    × (f.pretty ≡ is_given m (codes "pretty"))
+    × IsTextOf (argument m (codes "fun")) f.text
 
 -- the moves with which all schedules begin: all commands of the control list where `--control first` is given, else those of `--after`
 abbrev pub first_moves : ArgMatches → List ℕ

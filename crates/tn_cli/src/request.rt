@@ -326,6 +326,7 @@ fn fun<'s, 'a: 's>(matches: &'s ArgMatches<'a>) -> Request<'s>
 {
     Request::Fun(FunArgs {
         dialect: dialect_of(matches.get_str("for").unwrap_or("call")),
+        pretty: flag(matches, "pretty"),
         text: matches.get_str("fun"),
     })
 }

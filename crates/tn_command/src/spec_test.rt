@@ -154,7 +154,7 @@ fn test_notice<A: Allocator>(fault: &SpecTestFault<A>) -> Option<Notice<'static>
 }
 
 /// Says on standard error why the question has no answer, in one line.
-fn tell_question<R: Eprint + AllocGlobal>(
+pub fn tell_question<R: Eprint + AllocGlobal>(
     rt: &R,
     question: &SpecTestInput<'_>,
     fault: &SpecTestFault<Global>,

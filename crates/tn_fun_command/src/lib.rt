@@ -1,13 +1,17 @@
-//! The command `fun`: the specification of a fun's text on standard output, or its refusal.
+//! The command `fun`: the specification of a fun's text on standard output, or its refusal; and the fun of a
+//! specification's text.
 //!
-//! Depends on `tn_translation`, which answers a text, on `tn_run` and `tn_command` (ends and statuses) and
-//! on `tn_refusal` (lines and columns). Promises that the writer gains exactly the defined answer and a
-//! line feed, with status 0, or with status 2 beside the refusal; that a fault says what was written; and
-//! that what is said of a refusal is the defined line.
+//! Depends on `tn_translation`, which answers a text, on `tn_fun_text` (funs of specifications), on `tn_run` and
+//! `tn_command` (ends and statuses) and on `tn_refusal` (lines and columns). Promises that the writer gains exactly
+//! the defined answer and a line feed, with status 0, or with status 2 beside the refusal; that a fault says what was
+//! written; that what is said of a refusal is the defined line; and that the fun of a specification is the defined one,
+//! or the reason why no fun has it.
 #![tactic(auto)]
 
 mod command;
 mod notice;
+mod pretty;
 
 pub use command::{answer_fun_over, print_fun};
 pub use notice::put_notice;
+pub use pretty::{answer_spec_over, print_fun_of_spec};

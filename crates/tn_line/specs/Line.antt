@@ -129,7 +129,7 @@ TRIAL = codes "list" ∷ codes "for" ∷ codes "me" ∷ codes "caller" ∷ codes
 
 -- the arguments of `fun`
 abbrev pub FUN_ARGUMENTS : List (List ℕ)
-FUN_ARGUMENTS = codes "for" ∷ codes "fun" ∷ []
+FUN_ARGUMENTS = codes "for" ∷ codes "pretty" ∷ codes "fun" ∷ []
 
 -- the arguments of `explore`
 abbrev pub EXPLORE_ARGUMENTS : List (List ℕ)

@@ -1,6 +1,6 @@
 // The command `fun`, with its arguments.
 ghost use Rattle.std.specs.Prelude.{codes, IfOk};
-ghost use Rattle.tn_line.specs.Line.{IsCommand, IsElse, IsOption, IsWord, FUN_ARGUMENTS};
+ghost use Rattle.tn_line.specs.Line.{IsCommand, IsElse, IsFlag, IsOption, IsWord, FUN_ARGUMENTS};
 
 use crate::arguments::EVENTS;
 use clap::{Arg, ArgAction, Command};
@@ -20,6 +20,16 @@ fn fun_event<'a>(alloc: Global) -> Arg<'a>
         .action(ArgAction::Set)
 }
 
+/// `--pretty`.
+fn pretty<'a>(alloc: Global) -> Arg<'a>
+    ensures { IsFlag (codes "pretty") result }
+{
+    Arg::new(alloc, "pretty")
+        .long("pretty")
+        .help("FUN is a match specification, and the fun that it is of is printed")
+        .action(ArgAction::SetTrue)
+}
+
 /// The fun.
 fn fun_text<'a>(alloc: Global) -> Arg<'a>
     ensures { IsWord (codes "fun") result }
@@ -31,7 +41,7 @@ fn fun_text<'a>(alloc: Global) -> Arg<'a>
         .action(ArgAction::Set)
 }
 
-/// The subcommand `fun [--for EVENT] [FUN]`.
+/// The subcommand `fun [--for EVENT] [--pretty] [FUN]`.
 pub(crate) fn fun<'a>(alloc: Global) -> Result<Command<'a>, AllocError>
     ensures { IfOk result (IsCommand (codes "fun") FUN_ARGUMENTS) }
 {
@@ -40,5 +50,6 @@ pub(crate) fn fun<'a>(alloc: Global) -> Result<Command<'a>, AllocError>
             "Prints the match specification of a fun, as dbg:fun2ms/1 has it, or why it has none",
         )
         .arg(fun_event(alloc))?
+        .arg(pretty(alloc))?
         .arg(fun_text(alloc))
 }

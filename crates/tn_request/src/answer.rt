@@ -12,7 +12,7 @@ use crate::exploration::exploration_of;
 use crate::fun_text::fun_text_of;
 use crate::job::{RequestOutcome, format_of, job_of};
 use crate::request::{Request, RunRequest};
-use crate::trial::spec_input_of;
+use crate::trial::{spec_input_of, without_full_stop};
 use crate::workers::run_workers_request;
 use std::alloc::Allocator;
 use std::io;
@@ -27,7 +27,7 @@ use tn_command::{
     explore_script, open, perform_over, print_over, test_specs,
 };
 use tn_expectation::Expectation;
-use tn_fun_command::print_fun;
+use tn_fun_command::{print_fun, print_fun_of_spec};
 use tn_run::RunFault;
 use tn_text::Watched;
 
@@ -144,6 +144,9 @@ pub fn answer_request<R: Input + Files + Print + Eprint + AllocGlobal + Threads 
             trial.lists,
             form.format,
         ),
+        Request::Fun(fun) if fun.pretty => {
+            print_fun_of_spec(rt, without_full_stop(fun_text_of(fun, read)), fun.dialect)
+        }
         Request::Fun(fun) => print_fun(rt, fun_text_of(fun, read), fun.dialect),
         Request::Explore(words) => {
             explore_script(rt, words.script, &exploration_of(words), form.most)

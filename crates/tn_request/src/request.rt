@@ -60,7 +60,9 @@ pub struct SessionArgs<'a> {
 #[derive(Clone, Copy)]
 pub struct FunArgs<'a> {
     pub dialect: Dialect,
-    /// The fun, where it isn't standard input.
+    /// Whether the text is a specification, whose fun is asked for.
+    pub pretty: bool,
+    /// The text, where it isn't standard input.
     pub text: Option<&'a str>,
 }
 

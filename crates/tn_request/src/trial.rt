@@ -26,7 +26,7 @@ fn is_end_blank(byte: u8) -> bool
 }
 
 /// A text without a full stop at its end; the text, where it has none.
-fn without_full_stop(text: &[u8]) -> &[u8]
+pub(crate) fn without_full_stop(text: &[u8]) -> &[u8]
     ensures { result.now ≡ without_full_stop text.now }
 {
     let mut left = text.len();

@@ -8,4 +8,5 @@ returns c =
     let name = codes "fun" in
     let bare : IsCommand name [] c.about.result = record { called = search rules; takes = search rules } in
     let first = one_more name [] (codes "for") c.about.result c.in_ok-arg.field-0 c.fun_event.result bare c.fun_event.ensures.named.0 c.in_ok-arg.ensures in
-    one_more_so name _ (codes "fun") c.in_ok-arg.field-0 c.fun_text.result c.arg-2.result first c.fun_text.ensures.0 c.arg-2.ensures
+    let second = one_more name _ (codes "pretty") c.in_ok-arg.field-0 c.in_ok-arg-2.field-0 c.pretty.result first c.pretty.ensures.0 c.in_ok-arg-2.ensures in
+    one_more_so name _ (codes "fun") c.in_ok-arg-2.field-0 c.fun_text.result c.arg-3.result second c.fun_text.ensures.0 c.arg-3.ensures

@@ -1,0 +1,12 @@
+mod CallNames
+mod Loops
+mod Places
+mod Strings
+mod Heads
+mod ConstantValues
+mod Checks
+mod ClauseChecks
+mod ExprWritten
+mod NumberedAtoms
+mod PrintedFuns
+mod WrittenTexts

@@ -1,0 +1,13 @@
+pub mod Constants
+pub mod Terms
+pub mod Calls
+pub mod Values
+pub mod Reasons
+pub mod Checks
+pub mod Patterns
+pub mod Texts
+pub mod ExprTexts
+pub mod Clauses
+pub mod ClauseTexts
+pub mod WrittenFuns
+pub mod FunsOfSpecs
