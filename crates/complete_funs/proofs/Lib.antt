@@ -1,2 +1,3 @@
+mod PrintedAlike
 pub mod Readings
 mod Translations

@@ -1,9 +1,10 @@
-//! The contracts of tn_fun and tn_translation are complete. Each function calls one of theirs twice on equal
-//! values. It knows no more than the contract, so its proof shows that the contract leaves one answer.
+//! The contracts of tn_fun, tn_translation and tn_fun_text are complete. Each function calls one of theirs twice on
+//! equal values. It knows no more than the contract, so its proof shows that the contract leaves one answer.
 //!
-//! Depends on def_fun, tn_fun and tn_translation. Promises nothing to other crates.
+//! Depends on def_fun, tn_fun, tn_translation and tn_fun_text. Promises nothing to other crates.
 #![tactic(auto)]
 
+mod fun_text;
 mod names;
 mod reading;
 mod specification;
