@@ -72,7 +72,7 @@ _tracenode() {
                 words+=' --expect --expect-line --reject-line --strict --max-output -h --help'
                 ;;
             spec) words='--list --for --me --caller --json --file -h --help' ;;
-            fun) words='--for -h --help' ;;
+            fun) words='--for --pretty -h --help' ;;
             explore) words='--after --control --order --session --max-states --max-output -h --help' ;;
             help) words='run replay round workers explain draw spec fun explore' ;;
         esac

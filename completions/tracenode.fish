@@ -103,6 +103,7 @@ complete -c tracenode -n '__fish_seen_subcommand_from spec' -l caller -x -d 'The
 complete -c tracenode -n '__fish_seen_subcommand_from spec' -l file -r -d 'The file of the specification'
 complete -c tracenode -n '__fish_seen_subcommand_from spec' -l json -d 'Print JSON'
 complete -c tracenode -n '__fish_seen_subcommand_from fun' -l for -x -a 'call send receive' -d 'What the specification is for'
+complete -c tracenode -n '__fish_seen_subcommand_from fun' -l pretty -d 'Print the fun of a specification'
 complete -c tracenode -n '__fish_seen_subcommand_from explore' -l after -x -d 'The moves with which all schedules begin'
 complete -c tracenode -n '__fish_seen_subcommand_from explore' -l control -x -a first -d 'When the control list is taken'
 complete -c tracenode -n '__fish_seen_subcommand_from explore' -l order -x -a 'process total' -d 'Which messages are in an order'

@@ -174,6 +174,40 @@ REFUSED = (
     ("fun([X]) -> ^'A b'(X) end", "23 no function 'A b'/1"),
 )
 
+# Each specification, and the fun that it is of.
+PRETTY = (
+    ("[{['$1','$2'],[{'>','$2',3}],[{message,'$1'}]}]", "fun([X1, X2]) when X2 > 3 -> message(X1) end"),
+    ("[{'_',[],[true]}]", "fun(_) -> true end"),
+    ("[{'$1',[],['$1','$_','$*']}]", "fun(X1) -> X1, object(), bindings() end"),
+    ("[{['$1'],[{'==','$1',1}],[true]},{['$1'],[{'==','$1',2}],[true]}]", "fun([X1]) when X1 == 1 -> true;\n   ([X1]) when X1 == 2 -> true end"),
+    ("[{['$1'],[{is_atom,'$1'},{'not',{is_list,'$1'}}],[{{a,'$1',{{}}}},{const,'$a'}]}]", "fun([X1]) when is_atom(X1), not is_list(X1) -> {a, X1, {}}, '$a' end"),
+    ("[{[{a,'$1'},'_',-1,\"ab\"],[],[\"a\\\"b\\\\\",[1],[]]}]", 'fun([{a, X1}, _, -1, "ab"]) -> "a\\"b\\\\", [1], [] end'),
+    ("[{\"ab\",[],[a]}]", "fun([97, 98]) -> a end"),
+    ("[{['$1'],[],[{'-','$1',-1},{'*',{'+','$1',1},2},{'+','$1',{'*','$1',2}}]}]", "fun([X1]) -> X1 - -1, (X1 + 1) * 2, X1 + X1 * 2 end"),
+    ("[{['$1'],[],[{'-','$1',{'-','$1',1}},{'-',{'-','$1',1},2},{'andalso',{'andalso','$1',a},b}]}]", "fun([X1]) -> X1 - (X1 - 1), X1 - 1 - 2, (X1 andalso a) andalso b end"),
+    ("[{['$1'],[],[{'==',{'<','$1',1},true},{'not',{'==','$1',1}}]}]", "fun([X1]) -> (X1 < 1) == true, not (X1 == 1) end"),
+    ("[{'_',[],[{'==',[],[1]},{'==',[1],[]},{'==',{{[1]}},a}]}]", 'fun(_) -> "" == [1], [1|""] == [], {[1|""]} == a end'),
+    ("[{['$_','$*','$a'],[],[{return_trace}]}]", "fun(['$_', '$*', '$a']) -> return_trace() end"),
+)
+
+# Each specification that no fun has, and why.
+NO_FUNS = (
+    ("[{['$1'],[],[{message,'$$'}]}]", "clause 1: body 1: no expression of a fun is '$$'"),
+    ("[{['$1'],[{'==',1,1}],[true]}]", "clause 1: condition 1: a fun computes {'==',1,1} before it is a specification"),
+    (
+        "[{['$1'],[{'==','$1',{const,{a}}}],[true]}]",
+        "clause 1: condition 1: a fun has {const,T} of atoms that begin with $ alone, and {const,{a}} is another",
+    ),
+    ("[{'_',[],[]}]", "clause 1: body: the body is empty, and that of a fun has an expression; true there has no effect"),
+    (
+        "[{'_',[],[true]},{['$2','$1'],[],[true]}]",
+        "clause 2: head: '$2' comes before '$1': the variables of a fun have the numbers from 1 in their order",
+    ),
+    ("[{['$1',<0.101.0>],[],[true]}]", "clause 1: head: a fun has no pids, and <0.101.0> is one"),
+    ("[{['$1'],[],[true,{'and',true,'$1',a}]}]", "clause 1: body 2: a fun has no call and/3"),
+    ("[{['$1'],[{tuple_size,'$1'}],[true]}]", "clause 1: condition 1: a fun has no call tuple_size/1"),
+)
+
 # What standard error says of each refusal.
 WORDS = {
     2: "no fun has this here, or the text ends too soon",
@@ -208,6 +242,28 @@ def fun_specifications():
     wants("a fun from -", run(["fun", "-"], fun.encode()), 0, f"{spec}\n".encode())
     for event in ("call", "send", "receive"):
         wants(f"a fun for {event}", run(["fun", "--for", event, fun]), 0, f"{spec}\n".encode())
+
+
+def pretty_funs():
+    """Specifications and the funs that they are of, which are translated back; specifications that no fun has; other terms."""
+    for spec, fun in PRETTY:
+        wants(f"the fun of {spec}", run(["fun", "--pretty", spec]), 0, f"{fun}\n".encode())
+        whole = spec.replace('"ab"', "[97,98]").replace('"a\\"b\\\\"', "[97,34,98,92]")
+        wants(f"the specification of {fun}", run(["fun", fun]), 0, f"{whole}\n".encode())
+    for fun, spec in FUNS:
+        shown = run(["fun", "--pretty", spec])
+        again = run(["fun"], shown.stdout)
+        check(f"the fun of {spec}", shown.returncode == 0 and again.stdout == f"{spec}\n".encode(), (shown, again))
+    for spec, reason in NO_FUNS:
+        wants(f"no fun of {spec}", run(["fun", "--pretty", spec]), 2, b"", f"no fun: {reason}\n".encode())
+    spec, fun = PRETTY[0]
+    for words, text in (([], f"{spec}.\n"), (["-"], spec), (["--for", "send"], spec)):
+        wants(f"a specification by {words}", run(["fun", "--pretty", *words], text.encode()), 0, f"{fun}\n".encode())
+    for text, told in (("[", "specification:1:2: "), ("[]", "specification: "), ("[{a,[],[]}]", "specification: ")):
+        ran = run(["fun", "--pretty", text])
+        check(f"the fun of {text}", ran.returncode == 2 and not ran.stdout and ran.stderr.decode().startswith(told), ran)
+    ran = run(["fun", "--pretty", "--for", "receive", "[{'_',[],[{caller}]}]"])
+    check("the fun of a body for other events", ran.returncode == 2 and ran.stderr.startswith(b"specification: "), ran)
 
 
 def fun_refusals():

@@ -65,7 +65,13 @@ SUBJECTS = {
         specification_cases.functions,
         specification_cases.specifications,
     ),
-    "fun": (fun_cases.fun_specifications, fun_cases.fun_refusals, fun_cases.fun_limits, fun_cases.fun_table),
+    "fun": (
+        fun_cases.fun_specifications,
+        fun_cases.pretty_funs,
+        fun_cases.fun_refusals,
+        fun_cases.fun_limits,
+        fun_cases.fun_table,
+    ),
     "exploration": (
         exploration_cases.counts,
         exploration_cases.schedules_by_hand,
