@@ -74,10 +74,7 @@ impl Command for ExploreRequest<'_> {
 fn is_incomplete<F>(answer: &Result<ExploreOutcome, F>) -> bool
     ensures { result ≡ is_incomplete answer.now }
 {
-    match answer {
-        Ok(ExploreOutcome::Incomplete) => true,
-        _ => false,
-    }
+    matches!(answer, Ok(ExploreOutcome::Incomplete))
 }
 
 /// The status of what ended with a status so far.

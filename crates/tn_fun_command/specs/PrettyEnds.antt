@@ -9,8 +9,8 @@ use Rattle.tn_run.specs.declared.fault.RunFault.{RunFault}
 use Rattle.tn_run.specs.declared.fault.RunFault.TheVariants.{OutOfMemory}
 use Rattle.tn_command.specs.Status.{LISTED_STATUS, REFUSED_STATUS, FAULT_STATUS}
 use Rattle.tn_fun_text.specs.FunsOfSpecs.{IsFunOfSpec}
-use Rattle.tn_fun_text.specs.declared.fun_of_spec.FunOfSpec.{FunOfSpec}
-use Rattle.tn_fun_text.specs.declared.fun_of_spec.FunOfSpec.TheVariants as answers
+use Rattle.tn_fun_text.specs.declared.funs_of_specs.FunOfSpec.{FunOfSpec}
+use Rattle.tn_fun_text.specs.declared.funs_of_specs.FunOfSpec.TheVariants as answers
 
 -- the fun was written whole and flushed, with status 0; or a write failed after a front of it, with status 3
 pub record WritesFun {W A : Type 0} (gained : W → Option (List ℕ)) (old new : Watched W) (text : List ℕ) (n : ℕ) (r : Result (FunOfSpec A) RunFault) : Type 0 where

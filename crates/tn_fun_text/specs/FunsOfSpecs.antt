@@ -10,8 +10,8 @@ use Rattle.tn_spec.specs.Readings.{IsFaultIn}
 use Rattle.tn_spec.specs.Views.{dialect_of}
 use Rattle.tn_spec.specs.declared.func.Dialect.{Dialect}
 use Rattle.tn_text.specs.Answers.{IsTextRefusal}
-use Rattle.tn_fun_text.specs.declared.fun_of_spec.FunOfSpec.{FunOfSpec}
-use Rattle.tn_fun_text.specs.declared.fun_of_spec.FunOfSpec.TheVariants as answers
+use Rattle.tn_fun_text.specs.declared.funs_of_specs.FunOfSpec.{FunOfSpec}
+use Rattle.tn_fun_text.specs.declared.funs_of_specs.FunOfSpec.TheVariants as answers
 
 -- this is the fun of the term, with a line feed
 pub record HasFun (d : Dialect) (t : Tree) (output : List ℕ) : Type 0 where

@@ -2,8 +2,9 @@
 //!
 //! Depends on `def_fun` (texts of funs, calls, constants), on `tn_fun` (operators), `tn_spec` (dialects,
 //! kinds of atoms), `tn_term` and `tn_text`. Promises: `write_fun` appends the text of the fun that has a
-//! specification, or answers why no fun has it; `NoFun::write` appends the line that says so. A reason
-//! lends what it names from the term.
+//! specification, or answers why no fun has it; `NoFun::write` appends the line that says so; `fun_of_spec` gives the
+//! fun or that line for a text, or the fault of one that spells no specification. A reason lends what it names from the
+//! term.
 #![tactic(auto)]
 
 mod calls;
@@ -12,8 +13,8 @@ mod clause_check;
 mod clause_text;
 mod constants;
 mod expr_text;
-mod fun_of_spec;
 mod fun_text;
+mod funs_of_specs;
 mod integers;
 mod leaf_text;
 mod lists;
@@ -28,7 +29,7 @@ mod scope;
 mod values;
 
 pub use clause_check::FunTextFault;
-pub use fun_of_spec::{FunOfSpec, fun_of_spec};
 pub use fun_text::write_fun;
+pub use funs_of_specs::{FunOfSpec, fun_of_spec};
 pub use no_fun::{ClausePart, NoFun};
 pub use reason::Reason;
