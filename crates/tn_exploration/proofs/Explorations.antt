@@ -43,9 +43,14 @@ module _ (q : ExploreRequest) (p : Program) (before : List ℕ) where
       → AreSearchTexts q p before (groups ++ places ∷ []) (text ++ a) (w && wa)
   texts_more [] places text a w wa (none, all) one =
       (record { text = a; whole = wa }, record { text = []; whole = true }, one, (refl, refl), ap (λ t. t ++ a) none ∙ sym (append-nil a), last_and w wa all)
-  texts_more (g ∷ gs) places text a w wa (x, y, first, others, is, both) one =
-      (x, record { text = y.text ++ a; whole = y.whole && wa }, first, texts_more gs places y.text a y.whole wa others one,
-       ap (λ t. t ++ a) is ∙ append_assoc x.text y.text a, and_more x.whole y.whole wa w both)
+  texts_more (g ∷ gs) places text a w wa (x, y, first, others, is, both) one = (
+    x,
+    record { text = y.text ++ a; whole = y.whole && wa },
+    first,
+    texts_more gs places y.text a y.whole wa others one,
+    ap (λ t. t ++ a) is ∙ append_assoc x.text y.text a,
+    and_more x.whole y.whole wa w both,
+  )
 
   -- no text yet
   pub no_searches : (old : List ℕ) → AddsSearches q p before [] old old true
@@ -62,8 +67,8 @@ module _ (q : ExploreRequest) (p : Program) (before : List ℕ) where
       → AddsSearch q p before (get_or places i 0 ∷ []) mid new wa → AddsSearches q p before (map (λ n. n ∷ []) (take (i + 1) places)) old new (w && wa)
   place_search_more places i old mid new w wa below so_far one =
       subst (λ gs. AddsSearches q p before gs old new (w && wa))
-        (sym (ap (map (λ n. n ∷ [])) (take_more places i 0 below) ∙ map-append (λ n. n ∷ []) (take i places) (get_or places i 0 ∷ [])))
-        (search_more (map (λ n. n ∷ []) (take i places)) (get_or places i 0 ∷ []) old mid new w wa so_far one)
+      (sym (ap (map (λ n. n ∷ [])) (take_more places i 0 below) ∙ map-append (λ n. n ∷ []) (take i places) (get_or places i 0 ∷ [])))
+      (search_more (map (λ n. n ∷ []) (take i places)) (get_or places i 0 ∷ []) old mid new w wa so_far one)
 
   pub all_searches : (places : List ℕ) (i : ℕ) (old new : List ℕ) (w : Bool) → length places ≤ i → AddsSearches q p before (map (λ n. n ∷ []) (take i places)) old new w
       → AddsSearches q p before (map (λ n. n ∷ []) places) old new w

@@ -1,6 +1,6 @@
 -- What the text of a specification answers: its fun (own).
 -- Depends on the terms that texts spell, on specifications, and on the texts of funs.
-use Rattle.std.specs.Prelude.{◌≡◌, List, [], ◌∷◌, ◌++◌, Ok, Err}
+use Rattle.std.specs.Prelude.{◌≡◌, ℕ, List, [], ◌∷◌, ◌++◌, Ok, Err}
 use Rattle.def_term.specs.Tree.{Tree}
 use Rattle.def_text.specs.Spelling.{Spells}
 use Rattle.def_spec.specs.Outcome.{Spec}

@@ -27,7 +27,10 @@ pub enum FunOfSpec<A: Allocator> {
 }
 
 /// The line that says why no fun has a specification.
-fn no_fun_line<A: Allocator + Copy>(alloc: A, reason: NoFun<'_, A>) -> Result<Vec<u8, A>, AllocError>
+fn no_fun_line<A: Allocator + Copy>(
+    alloc: A,
+    reason: NoFun<'_, A>,
+) -> Result<Vec<u8, A>, AllocError>
     ensures { IfOk result (λ v. v.items ≡ no_fun_line (no_fun_seen reason.entry)) }
 {
     let mut line = Vec::new(alloc);

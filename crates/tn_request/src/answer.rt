@@ -23,8 +23,8 @@ use std::rt::Files;
 use std::sync::Wait;
 use std::thread::Threads;
 use tn_command::{
-    INPUT, InFormat, JobEnd, OutputFault, OutputForm, Source, Streams, WithinBytes,
-    explore_script, open, perform_over, print_over, test_specs,
+    INPUT, InFormat, JobEnd, OutputFault, OutputForm, Source, Streams, WithinBytes, explore_script,
+    open, perform_over, print_over, test_specs,
 };
 use tn_expectation::Expectation;
 use tn_fun_command::{print_fun, print_fun_of_spec};

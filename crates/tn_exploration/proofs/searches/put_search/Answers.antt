@@ -8,8 +8,9 @@ use Rattle.tn_exploration.proofs.searches.put_search.Goals as goal
 
 pub returns : goal.returns
 returns g c =
-    let e = c.in_ok-exploration.exploration in
-    (c.in_ok-own.own.items,
-     search_text c.args.request.now (program_of c.args.program.now) c.args.before.now c.args.places.now (map session_name_seen c.in_ok-names.names.items) (answer_entries kept_seen e.answers.entries) e.states e.is_complete c.in_ok-own.own.items
-       c.in_ok-names.ensures c.in_ok-exploration.ensures c.in_ok-own.ensures,
-     c.in_ok-extend_from_slice.ensures.items)
+    let e = c.in_ok-exploration.exploration in (
+      c.in_ok-own.own.items,
+      search_text c.args.request.now (program_of c.args.program.now) c.args.before.now c.args.places.now (map session_name_seen c.in_ok-names.names.items) (answer_entries kept_seen e.answers.entries) e.states e.is_complete c.in_ok-own.own.items
+          c.in_ok-names.ensures c.in_ok-exploration.ensures c.in_ok-own.ensures,
+      c.in_ok-extend_from_slice.ensures.items,
+    )
