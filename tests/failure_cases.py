@@ -114,6 +114,12 @@ def growing():
         yield words, numbers
     for words in (["workers", "--n", "1"], ["replay", *EVERY_LINE]):
         yield words, every
+    race = (EXAMPLES / "race.term").read_bytes()
+    for words in (["explore", "--control", "first"], ["explore", "--after", "0*4 100*4"]):
+        yield words, race
+    spec = "[{['$1','$2'],[{'>','$2',3}],[{message,{{a,'$1'}}},\"text\"]},{'_',[],[{return_trace}]}]"
+    for words in (["fun", "fun([X,Y]) when Y > 3 -> message({a,X}), \"text\"; (_) -> return_trace() end"], ["fun", "--pretty", spec]):
+        yield words, b""
     for name in layers.NAMES:
         yield (ROWS / name / "args").read_text().removesuffix("\n").split("\n"), (ROWS / name / "stdin").read_bytes()
 
@@ -131,7 +137,7 @@ def growths():
                 is_fault = ran.returncode == 3 and ran.stderr in (b"fault memory\n", b"fault workers\n")
                 if not (is_fault and not ran.stdout or ran.returncode == 0 and ran.stdout == whole):
                     check(f"growth {number} of {words}", False, ran)
-            good = ran.returncode == 0 and ran.stdout == whole and number > 50
+            good = ran.returncode == 0 and ran.stdout == whole and number > (50 if script else 10)
             check(f"each growth of {words}, {number} of them", good, ran)
 
 
