@@ -10,3 +10,4 @@ mod ExprWritten
 mod NumberedAtoms
 mod PrintedFuns
 mod WrittenTexts
+mod SpecTerms
