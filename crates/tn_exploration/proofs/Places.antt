@@ -7,7 +7,7 @@ use Rattle.tn_answers.specs.AnswerViews.{session_name_seen}
 use Rattle.tn_answers.specs.declared.entry.SessionName.{SessionName}
 use Rattle.tn_search.specs.Sessions.{element_at, elements_at}
 use Rattle.tn_search.proofs.Places.{elements_more}
-use Rattle.tn_exploration.specs.Requests.{is_asked, place_asked, places_from}
+use Rattle.tn_exploration.specs.Requests.{is_session_asked, place_asked, places_from}
 
 -- ---- one place more
 
@@ -22,13 +22,13 @@ passed : (b : Bool) (place : ℕ) → b ≡ false → (if b then place ∷ [] el
 passed true place is = cc
 passed false place is = refl
 
-pub not_asked : (asked : Option Name) (place : ℕ) (places : List ℕ) (o : Option (Name × Name)) (s : Name × Name) (b : Bool) → o ≡ Some s → b ≡ is_asked asked s.0 → b ≡ false → places ≡ places ++ place_asked asked place o
+pub not_asked : (asked : Option Name) (place : ℕ) (places : List ℕ) (o : Option (Name × Name)) (s : Name × Name) (b : Bool) → o ≡ Some s → b ≡ is_session_asked asked s.0 → b ≡ false → places ≡ places ++ place_asked asked place o
 not_asked asked place places o s b there says is =
-    sym (ap (λ x. places ++ place_asked asked place x) there ∙ ap (λ xs. places ++ xs) (passed (is_asked asked s.0) place (sym says ∙ is)) ∙ append-nil places)
+    sym (ap (λ x. places ++ place_asked asked place x) there ∙ ap (λ xs. places ++ xs) (passed (is_session_asked asked s.0) place (sym says ∙ is)) ∙ append-nil places)
 
-pub one_asked : (asked : Option Name) (place : ℕ) (old new : List ℕ) (o : Option (Name × Name)) (s : Name × Name) (b : Bool) → o ≡ Some s → b ≡ is_asked asked s.0 → b ≡ true → new ≡ old ++ place ∷ [] → new ≡ old ++ place_asked asked place o
+pub one_asked : (asked : Option Name) (place : ℕ) (old new : List ℕ) (o : Option (Name × Name)) (s : Name × Name) (b : Bool) → o ≡ Some s → b ≡ is_session_asked asked s.0 → b ≡ true → new ≡ old ++ place ∷ [] → new ≡ old ++ place_asked asked place o
 one_asked asked place old new o s b there says is longer =
-    longer ∙ sym (ap (λ x. old ++ place_asked asked place x) there ∙ ap (λ xs. old ++ xs) (picked (is_asked asked s.0) place (sym says ∙ is)))
+    longer ∙ sym (ap (λ x. old ++ place_asked asked place x) there ∙ ap (λ xs. old ++ xs) (picked (is_session_asked asked s.0) place (sym says ∙ is)))
 
 -- ---- the first of some places
 

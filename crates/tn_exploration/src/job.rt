@@ -1,21 +1,27 @@
 // All schedules of a script's program, explored.
-ghost use Rattle.std.specs.Prelude.{IfOk};
+ghost use Rattle.std.specs.Prelude.{◌≡◌, IfOk};
 ghost use Rattle.tn_program.specs.Views.{program_of};
 ghost use Rattle.tn_moves.specs.Schedules.{IsSpelledBy, schedule_seen};
 ghost use Rattle.tn_run.specs.Jobs.{Meets};
-ghost use Rattle.tn_exploration.specs.Requests.{IsExploration, IsExplorationFrom, explore_by};
+ghost use Rattle.tn_exploration.specs.Requests.{IsExploration, IsExplorationFrom, explore_by, lacks_session};
 
 use crate::request::{ExploreOutcome, ExploreRequest};
-use crate::sessions::{names_at, places_of};
+use crate::searches::put_groups;
+use crate::sessions::places_of;
 use std::alloc::{AllocError, Allocator};
 use std::io::{Read, Write};
-use tn_answers::exploration_text;
 use tn_listing::PicksFault;
 use tn_moves::{MovesFault, moves_of_plan};
 use tn_program::Program;
 use tn_run::{DirectJob, Job, Refusal, RunFault, RunRefusal, transact};
-use tn_search::explore_program;
 use tn_text::Watched;
+
+/// Whether a session is asked for that the control list doesn't create: none of that name has a place.
+fn lacks_session(request: &ExploreRequest<'_>, places: &[usize]) -> bool
+    ensures { result ≡ lacks_session request.now places.now }
+{
+    request.session.is_some() && places.is_empty()
+}
 
 /// What is written of the schedules that begin with a journal.
 fn exploration_from<A: Allocator + Copy>(
@@ -27,14 +33,12 @@ fn exploration_from<A: Allocator + Copy>(
     ensures { IfOk result (λ r. IsExplorationFrom request.now (program_of program.now) before.now r.0 r.1.items) }
 {
     let places = places_of(alloc, program, request.session)?;
-    if places.is_empty() && request.session.is_some() {
-        return Ok((ExploreOutcome::NoSession, Vec::new(alloc)));
+    let mut text = Vec::new(alloc);
+    if lacks_session(request, &places) {
+        return Ok((ExploreOutcome::NoSession, text));
     }
-    let names = names_at(alloc, program, &places)?;
-    let most = request.max_states;
-    let exploration = explore_program(alloc, program, before, request.order, &places, most)?;
-    let text = exploration_text(alloc, &names, &exploration)?;
-    if exploration.is_complete {
+    let is_complete = put_groups(alloc, program, request, before, &places, &mut text)?;
+    if is_complete {
         Ok((ExploreOutcome::Complete, text))
     } else {
         Ok((ExploreOutcome::Incomplete, text))

@@ -1,11 +1,12 @@
 //! What a program's schedules can give: the job of a command, and its text.
 //!
 //! Depends on tn_search (the search), tn_answers (the text) and tn_run (jobs). Promises that `explore` writes the
-//! defined text of an exploration of the program's runs, or the line of the one refusal.
+//! defined texts of explorations of the program's runs, each about one session, or the line of the one refusal.
 #![tactic(auto)]
 
 mod job;
 mod request;
+mod searches;
 mod sessions;
 
 pub use job::explore;

@@ -5,7 +5,7 @@ ghost use Rattle.def_script.specs.Script.{creations};
 ghost use Rattle.tn_program.specs.Views.{program_of};
 ghost use Rattle.tn_answers.specs.AnswerViews.{session_name_seen};
 ghost use Rattle.tn_search.specs.Sessions.{element_at, elements_at};
-ghost use Rattle.tn_exploration.specs.Requests.{is_asked, place_asked, places_of};
+ghost use Rattle.tn_exploration.specs.Requests.{is_session_asked, place_asked, places_of};
 
 use std::alloc::{AllocError, Allocator};
 use tn_answers::SessionName;
@@ -13,8 +13,8 @@ use tn_program::Program;
 use tn_term::Atom;
 
 /// Whether the session of this name is asked for: that of the asked name alone, where one is given.
-fn is_asked<A: Allocator>(asked: Option<&str>, name: &Atom<A>) -> bool
-    ensures { result ≡ is_asked (option_map (λ s. s.now) asked.entry) name.now }
+fn is_session_asked<A: Allocator>(asked: Option<&str>, name: &Atom<A>) -> bool
+    ensures { result ≡ is_session_asked (option_map (λ s. s.now) asked.entry) name.now }
 {
     match asked {
         None => true,
@@ -36,7 +36,7 @@ fn add_place<A: Allocator + Copy>(
     let Some((name, _)) = program.session_at(place) else {
         return Ok(());
     };
-    if !is_asked(asked, name) {
+    if !is_session_asked(asked, name) {
         return Ok(());
     }
     places.push(place)?;
