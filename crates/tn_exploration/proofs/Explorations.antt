@@ -1,5 +1,5 @@
 -- What is written of a search.
-use Rattle.std.proofs.Common.{◌≡◌, ◌∙◌, ℕ, ◌+◌, ◌<◌, ◌≤◌, ◌&&◌, Bool, true, false, List, [], ◌∷◌, ◌++◌, length, map, take, get_or, refl, sym, ap, subst, append-nil, append_assoc}
+use Rattle.std.proofs.Common.{◌≡◌, ◌∙◌, ℕ, ◌+◌, ◌<◌, ◌≤◌, ◌&&◌, Bool, true, false, List, [], ◌∷◌, ◌++◌, length, map, take, get_or, refl, sym, ap, subst, append-nil, append_assoc, arith}
 use Rattle.std.proofs.lemmas.List.{take_more, take_all, map-append}
 use Rattle.def_term.specs.Names.{Name}
 use Rattle.def_script.specs.Program.{Program}
@@ -26,6 +26,10 @@ search_text q p before places names es states whole text named searches written 
   search = searches;
   written = written ∙ ap (λ ss. exploration_text ss es states whole) named;
 }
+
+pub no_places : (places : List ℕ) → length places ≡ 0 → is_empty places ≡ true
+no_places [] none = refl
+no_places (n ∷ ns) none = absurd (omega arith)
 
 -- ---- texts one after another
 

@@ -1,5 +1,5 @@
 // The texts of searches, one after another.
-ghost use Rattle.std.specs.Prelude.{◌∷◌, [], IfOk, map};
+ghost use Rattle.std.specs.Prelude.{◌≡◌, ◌&&◌, ◌∷◌, [], IfOk, map};
 ghost use Rattle.tn_program.specs.Views.{program_of};
 ghost use Rattle.tn_exploration.specs.Requests.{AddsSearch, AddsSearches, groups_of};
 
@@ -47,6 +47,13 @@ fn put_one<A: Allocator + Copy>(
     put_search(alloc, program, request, before, &places, text)
 }
 
+/// Whether both are so.
+fn both(one: bool, other: bool) -> bool
+    ensures { result ≡ (one && other) }
+{
+    one && other
+}
+
 /// Appends those of the session at each of these places: whether all tried all states.
 fn put_each<A: Allocator + Copy>(
     alloc: A,
@@ -56,13 +63,13 @@ fn put_each<A: Allocator + Copy>(
     places: &[usize],
     text: &mut Vec<u8, A>,
 ) -> Result<bool, AllocError>
-    ensures { IfOk result (AddsSearches request.now (program_of program.now) before.now (map (λ n. n ∷ []) places.now)
-        text.old.items text.new.items) }
+    ensures { IfOk result (AddsSearches request.now (program_of program.now) before.now
+        (map (λ n. n ∷ []) places.now) text.old.items text.new.items) }
 {
     let mut all = true;
     for place in places {
         let whole = put_one(alloc, program, request, before, *place, text)?;
-        all = all && whole;
+        all = both(all, whole);
     }
     Ok(all)
 }

@@ -92,7 +92,7 @@ module _ {A K : Type 0} (Keeps : K → List Tree → Type 0) (b : Bool) (p : Pro
       let x = beside (IsTracked Keeps (exports_of p) living) n (track_after (exports_of p) (events p one) t.0 s.0) (tracks_of p one) slots h t.1 in
       let y = beside (IsTracked Keeps (exports_of p) others) n (track_after (exports_of p) (events p other) u.0 s.0) (tracks_of p other) slots' k u.1 in
       let r : IsSameTrack b (track_after (exports_of p) (events p one) t.0 s.0) (track_after (exports_of p) (events p other) u.0 s.0) =
-          same x.other y.other x.at y.at (exports_of p) living others (track_after (exports_of p) (events p one) t.0 s.0) (track_after (exports_of p) (events p other) u.0 s.0) there (commands_determine s.0 p one other commands) x.so y.so in
+      same x.other y.other x.at y.at (exports_of p) living others (track_after (exports_of p) (events p one) t.0 s.0) (track_after (exports_of p) (events p other) u.0 s.0) there (commands_determine s.0 p one other commands) x.so y.so in
       (r.session, r.kept)
 
   abbrev AreAlike : List Name → Type 0

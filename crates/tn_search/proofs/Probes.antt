@@ -60,12 +60,11 @@ none_tried node probe same p made here = (same, All-nil (λ pick. IsMovingAfter 
 
 pub one_tried : (node old new : Option NodeValue) (picks before after : List ℕ) (i : ℕ) → i < length picks → TriesPick (get_or picks i 0) node old new before after → AreTried node old (take i picks) before → AreTried node new (take (i + 1) picks) after
 one_tried node old new picks before after i below tries so_far p made here =
-    let t = tries p made here (so_far p made here).0 in
-    (
+    let t = tries p made here (so_far p made here).0 in (
       t.again,
       All-more (λ pick. IsMovingAfter p made pick → Contains after pick) picks i 0 below
-      (All-weaker (λ pick. IsMovingAfter p made pick → Contains before pick) (λ pick. IsMovingAfter p made pick → Contains after pick) (λ pick h moving. t.still pick (h moving)) (take i picks) (so_far p made here).1)
-      t.moving,
+          (All-weaker (λ pick. IsMovingAfter p made pick → Contains before pick) (λ pick. IsMovingAfter p made pick → Contains after pick) (λ pick h moving. t.still pick (h moving)) (take i picks) (so_far p made here).1)
+          t.moving,
     )
 
 pub all_tried : (node probe : Option NodeValue) (picks moving : List ℕ) (i : ℕ) → length picks ≤ i → AreTried node probe (take i picks) moving → HasMovesAmong node picks moving

@@ -22,15 +22,15 @@ use Rattle.tn_search.specs.Sinks.{KeepSame}
 -- a session of the definitions is its settings and what events change
 session_is : (s t : definition.Session) → settings_in s ≡ settings_in t → processes_in s ≡ processes_in t → s ≡ t
 session_is s t e f = λ i. record {
-      phase = ap (λ (x : Settings). x.phase) e i;
-      alive = ap (λ (x : SessionProcesses). x.alive) f i;
-      flags = ap (λ (x : SessionProcesses). x.flags) f i;
-      new_process_flags = ap (λ (x : Settings). x.new_process_flags) e i;
-      functions = ap (λ (x : Settings). x.functions) e i;
-      sending = ap (λ (x : Settings). x.sending) e i;
-      receiving = ap (λ (x : Settings). x.receiving) e i;
-      marks = ap (λ (x : SessionProcesses). x.marks) f i;
-    }
+  phase = ap (λ (x : Settings). x.phase) e i;
+  alive = ap (λ (x : SessionProcesses). x.alive) f i;
+  flags = ap (λ (x : SessionProcesses). x.flags) f i;
+  new_process_flags = ap (λ (x : Settings). x.new_process_flags) e i;
+  functions = ap (λ (x : Settings). x.functions) e i;
+  sending = ap (λ (x : Settings). x.sending) e i;
+  receiving = ap (λ (x : Settings). x.receiving) e i;
+  marks = ap (λ (x : SessionProcesses). x.marks) f i;
+}
 
 some_processes : (a b : SessionProcesses) → Some a ≡ Some b → a ≡ b
 some_processes a b e = cc

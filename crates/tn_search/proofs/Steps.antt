@@ -155,7 +155,7 @@ module _ {A K : Type 0} (Keeps : K → List Tree → Type 0) (b : Bool) (s t : P
   same_states long node living each =
       let place = same_place long node in
       let r = alike_at Keeps b a.program (state_journal s) (state_journal t) (alive_of s.run.observer.living) (alive_of t.run.observer.living) s.run.observer.slots.items t.run.observer.slots.items
-          (ap (λ (x : RunState). x.commands) place) living is.run.seen.sessions also.run.seen.sessions s.places.now each in
+      (ap (λ (x : RunState). x.commands) place) living is.run.seen.sessions also.run.seen.sessions s.places.now each in
       subst (λ ss. IsStateAlike a.question ss a.program (state_journal s) (state_journal t)) (sym is.sessions)
       (subst (λ q. IsStateAlike q (names_at a.program s.places.now) a.program (state_journal s) (state_journal t)) (sym is.question)
       (record {

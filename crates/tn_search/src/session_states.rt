@@ -24,10 +24,7 @@ pub(crate) fn same_living(one: Alive, other: Alive) -> bool
 }
 
 /// Whether events left both sessions in the same state.
-fn same_session<A: Allocator + Copy>(
-    one: &Option<Session<A>>,
-    other: &Option<Session<A>>,
-) -> bool
+fn same_session<A: Allocator + Copy>(one: &Option<Session<A>>, other: &Option<Session<A>>) -> bool
     ensures { IsSameSession one.now other.now result }
 {
     match one {

@@ -6,8 +6,8 @@ use Rattle.tn_exploration.specs.Requests.{IsExploration, IsExplorationFrom}
 use Rattle.tn_exploration.proofs.Explorations.{asked_exploration}
 use Rattle.tn_exploration.proofs.job.outcome_of.Goals as goal
 
-pub returns-in-Ok : goal.returns-in-Ok
-returns-in-Ok g c =
+pub returns-in_ok-before-in-Ok : goal.returns-in_ok-before-in-Ok
+returns-in_ok-before-in-Ok g c =
     let q = c.args.request.now in
     let p = program_of c.args.program.now in
     let before = c.deref.result.now in

@@ -27,7 +27,7 @@ loop-pick-preserved g c = λ a depth at here.
           subst (λ b. Tries J I a (depth + 1) s (take (i + 1) picks) old c.if-branch.next.states.items b) (sym w.moved-is)
           (subst (λ n. Tries J I a (depth + 1) s (take (i + 1) picks) old n.states.items true) (sym w.next-is)
           (tries_moved J I a (depth + 1) s picks i old new w.add.new.self.states.items c.loop-pick.moved u c.loop-pick-test.true moves
-            (w.in_ok-add.ensures a (depth + 1) t.at (stepped_at J I a depth s (get_or picks i 0) u here moves)) t))
+          (w.in_ok-add.ensures a (depth + 1) t.at (stepped_at J I a depth s (get_or picks i 0) u here moves)) t))
       | else-branch w ↦
           let idle = subst (StepGives J I a (J s) (get_or picks i 0) u) w.if-branch.false gives in
           subst (λ b. Tries J I a (depth + 1) s (take (i + 1) picks) old c.if-branch.next.states.items b) (sym w.moved-is)

@@ -11,6 +11,6 @@ returns g c =
     let old = c.args.node.now in
     let new = c.step.new.self in
     elim c.match-branch-2.branch [
-      in-Idle w ↦ subst (λ r. IfOk r (Probes pick old new)) (sym w.result-is) (probed_idle pick old new c.in_ok-step.field-0 w.in-Idle.is c.in_ok-step.ensures.moved)
+      | in-Idle w ↦ subst (λ r. IfOk r (Probes pick old new)) (sym w.result-is) (probed_idle pick old new c.in_ok-step.field-0 w.in-Idle.is c.in_ok-step.ensures.moved)
       | in_default w ↦ subst (λ r. IfOk r (Probes pick old new)) (sym w.result-is) (probed_moved pick old new)
     ]
