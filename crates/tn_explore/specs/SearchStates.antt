@@ -15,8 +15,8 @@ abbrev pub StepGives : {S : Type 0} → (S → List ℕ) → (S → Query → Ty
 StepGives Journal IsOf a journal pick t false = IsIdleAfter a.program journal pick
 StepGives Journal IsOf a journal pick t true = IsMovingAfter a.program journal pick × (Journal t ≡ journal ++ pick ∷ []) × IsOf t a
 
-abbrev pub Advances : {S : Type 0} → (S → List ℕ) → (S → Query → Type 0) → ℕ → S → S → Bool → Type 0
-Advances Journal IsOf pick old new moved = (a : Query) → IsOf old a → StepGives Journal IsOf a (Journal old) pick new moved
+abbrev pub AdvancesState : {S : Type 0} → (S → List ℕ) → (S → Query → Type 0) → ℕ → S → S → Bool → Type 0
+AdvancesState Journal IsOf pick old new moved = (a : Query) → IsOf old a → StepGives Journal IsOf a (Journal old) pick new moved
 
 -- every other pick is idle
 abbrev pub HasAllMoves : {S : Type 0} → (S → List ℕ) → (S → Query → Type 0) → S → List ℕ → Type 0

@@ -7,7 +7,7 @@ pub trait SearchState<A: Allocator>: Sized + Drop {
     ghost use Rattle.std.specs.Prelude.{◌≡◌, ℕ, List, IfOk};
     ghost use Rattle.def_explore.specs.Rests.{KeptMessages};
     ghost use Rattle.tn_explore.specs.Query.{Query};
-    ghost use Rattle.tn_explore.specs.SearchStates.{IsCopy, Advances, HasAllMoves, AreSame, KeepsFor, EqualsByKept};
+    ghost use Rattle.tn_explore.specs.SearchStates.{IsCopy, AdvancesState, HasAllMoves, AreSame, KeepsFor, EqualsByKept};
 
     /// What is kept of its messages.
     type Observation: Eq + Hash + Drop;
@@ -31,7 +31,7 @@ pub trait SearchState<A: Allocator>: Sized + Drop {
 
     /// Takes one more pick: whether it moved.
     fn advance(&mut self, pick: u32) -> Result<bool, AllocError>
-        ensures { IfOk result (Advances journal is_of pick self.old self.new) };
+        ensures { IfOk result (AdvancesState journal is_of pick self.old self.new) };
 
     /// Whether both are the same state. Where it is false they may be the same too.
     fn same(&self, other: &Self) -> bool
