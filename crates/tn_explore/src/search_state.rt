@@ -7,7 +7,8 @@ pub trait SearchState<A: Allocator>: Sized + Drop {
     ghost use Rattle.std.specs.Prelude.{◌≡◌, ℕ, List, IfOk};
     ghost use Rattle.def_explore.specs.Rests.{KeptMessages};
     ghost use Rattle.tn_explore.specs.Query.{Query};
-    ghost use Rattle.tn_explore.specs.SearchStates.{IsCopy, AdvancesState, HasAllMoves, AreSame, KeepsFor, EqualsByKept};
+    ghost use Rattle.tn_explore.specs.SearchStates.{IsCopy, AdvancesState, HasAllMoves, AreSame};
+    ghost use Rattle.tn_explore.specs.SearchStates.{KeepsFor, EqualsByKept};
 
     /// What is kept of its messages.
     type Observation: Eq + Hash + Drop;
@@ -49,5 +50,5 @@ pub trait SearchState<A: Allocator>: Sized + Drop {
         ensures { IfOk result (λ v. v.items ≡ journal self.now) };
 
     /// Two of what is kept are equal where the same is kept, and nowhere else.
-    ghost equals_by_kept: { EqualsByKept Self.Observation.eq kept_seen };
+    ghost equals: { EqualsByKept Self.Observation.eq kept_seen };
 }

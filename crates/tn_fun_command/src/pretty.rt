@@ -20,7 +20,8 @@ fn write_answer<A: Allocator, W: Write>(
     writer: &mut Watched<W>,
     answer: FunOfSpec<A>,
 ) -> JobEnd<FunOfSpec<A>, RunFault>
-    ensures written { WritesAnswer W.contents writer.old writer.new answer.entry (exit_status result.status) result.answer }
+    ensures written { WritesAnswer W.contents writer.old writer.new answer.entry
+        (exit_status result.status) result.answer }
     ensures status { IsStatus (exit_status result.status) }
 {
     let FunOfSpec::Fun(text) = answer else {

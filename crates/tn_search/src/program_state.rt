@@ -140,5 +140,5 @@ impl<A: Allocator + Copy, K: SearchSink<A> + Drop> SearchState<A> for ProgramSta
         Ok(copy)
     }
 
-    ghost equals_by_kept = { by_kept ⟦<KeptListings<A> as PartialEq>⟧.eq (λ v w. refl) (λ v w. refl) (λ v w. refl) (λ v w. refl) };
+    ghost equals = { by_kept ⟦<KeptListings<A> as PartialEq>⟧.eq (λ v w. refl) (λ v w. refl) (λ v w. (refl, refl)) };
 }
