@@ -12,5 +12,5 @@ returns-in_ok-before-in-Ok g c =
     let p = program_of c.args.program.now in
     let before = c.deref.result.now in
     IfOk-weaker c.exploration_from.result (λ r. IsExplorationFrom q p before r.0 r.1.items) (λ r. IsExploration q p r.0 r.1.items)
-    (λ r is. asked_exploration q p before r.0 r.1.items (record { picks = plan_picks p c.in-Ok.plan; given = c.in-Ok.ensures; moved = c.deref.ensures.value ∙ c.in_ok-before.ensures }) is)
+    (λ r is. asked_exploration q p before r.0 r.1.items (record { picks = plan_picks p c.in-Ok.plan; given = c.in-Ok.ensures; moved = c.deref.ensures.value ∙ c.in_ok-before-in-Ok.ensures }) is)
     c.exploration_from.ensures

@@ -16,7 +16,7 @@ loop-place-preserved g c =
     let places = c.args.places.now in
     let old = c.args.text.now.items in
     let new = c.put_one.new.text.items in
-    subst (AddsSearches q p before (map (λ n. n ∷ []) (take (l.place-index + 1) places)) old new) (sym c.both.ensures)
+    subst (AddsSearches q p before (map (λ n. n ∷ []) (take (l.place-index + 1) places)) old new) (sym c.both-all.ensures)
     (place_search_more q p before places l.place-index old l.text.items new l.all c.in_ok-whole.whole c.loop-place-test.true l.invariant c.in_ok-whole.ensures)
 
 pub returns : goal.returns
