@@ -16,9 +16,9 @@ use Rattle.complete_explore.specs.Explorations.{ExploreAlike}
 module _ {A M : Type 0} (Seen : M → KeptMessages) (max_states : ℕ) (a : Query) (e f : Exploration A M) where
   explore_alike : Explores a (answer_entries Seen e.answers.entries) max_states e.states e.is_complete → Explores a (answer_entries Seen f.answers.entries) max_states f.states f.is_complete → ExploreAlike Seen e f
   explore_alike x y all whole = (
-      are_determined a.question a.sessions a.program a.before (answer_entries Seen e.answers.entries) (answer_entries Seen f.answers.entries) x.sound (x.shortest all) y.sound (y.shortest whole) (y.complete whole),
-      are_determined a.question a.sessions a.program a.before (answer_entries Seen f.answers.entries) (answer_entries Seen e.answers.entries) y.sound (y.shortest whole) x.sound (x.shortest all) (x.complete all),
-    )
+    are_determined a.question a.sessions a.program a.before (answer_entries Seen e.answers.entries) (answer_entries Seen f.answers.entries) x.sound (x.shortest all) y.sound (y.shortest whole) (y.complete whole),
+    are_determined a.question a.sessions a.program a.before (answer_entries Seen f.answers.entries) (answer_entries Seen e.answers.entries) y.sound (y.shortest whole) x.sound (x.shortest all) (x.complete all),
+  )
 
 module _ {A M S : Type 0} (Journal : S → List ℕ) (IsOf : S → Query → Type 0) (Seen : M → KeptMessages) (max_states : ℕ) where
   -- what the search promises
