@@ -1,5 +1,5 @@
 -- Why no fun has an expression.
-use Rattle.std.proofs.Common.{◌≡◌, ◌≢◌, ◌∙◌, ℕ, ℤ, ◌+◌, ◌-◌, ◌<◌, ◌≤◌, Bool, true, false, not, ◌&&◌, ◌||◌, if◌then◌else◌, List, [], ◌∷◌, length, get_or, drop, Option, Some, None, Result, Ok, Err, codes, refl, sym, ap, ap₂, subst, arith}
+use Rattle.std.proofs.Common.{◌≡◌, ◌∙◌, ℕ, ℤ, ◌+◌, ◌<◌, Bool, true, false, not, ◌||◌, if◌then◌else◌, List, [], ◌∷◌, length, get_or, drop, Option, Some, None, Result, Ok, Err, codes, refl, sym, ap, subst, arith}
 use Rattle.std.specs.Str.{bytes_eq}
 use Rattle.std.specs.Option.{option_or}
 use Rattle.def_term.specs.Tree.{Tree, int, atom, pid, tuple, list, Trees, none, more, count}
@@ -18,7 +18,7 @@ use Rattle.tn_term.proofs.Trees.{count_seen}
 use Rattle.tn_fun_text.specs.declared.check.CheckFault.{CheckFault}
 use Rattle.tn_fun_text.specs.declared.check.CheckFault.TheVariants as faults
 use Rattle.tn_fun_text.specs.Reasons.{no_fun_reason, SaysReason}
-use Rattle.tn_fun_text.specs.Checks.{is_dollar_atom_tree, is_dollar_const, computed_reason, fun_call_reason}
+use Rattle.tn_fun_text.specs.Checks.{is_dollar_const, computed_reason, fun_call_reason}
 use Rattle.tn_fun_text.proofs.Places.{first_is, alone_is, crowd}
 use Rattle.tn_fun_text.proofs.Loops.{of_next}
 

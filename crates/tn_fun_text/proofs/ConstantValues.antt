@@ -3,7 +3,7 @@ use Rattle.std.proofs.Common.{◌≡◌, ◌≢◌, ◌∙◌, ℕ, ◌+◌, ◌
 use Rattle.std.proofs.lemmas.List.{map-append}
 use Rattle.std.specs.Result.{IfOk}
 use Rattle.std.specs.Str.{bytes_eq}
-use Rattle.def_term.specs.Tree.{Tree, int, atom, pid, tuple, list, Trees, none, more, of_elements, count}
+use Rattle.def_term.specs.Tree.{Tree, int, atom, pid, tuple, list, Trees, more, count}
 use Rattle.def_term.specs.Names.{Name}
 use Rattle.def_spec.specs.Expressions.{Dialect, Position}
 use Rattle.def_spec.specs.Reading.{AtomKind, a_variable, a_wrong_variable, a_plain_atom, is_wildcard}

@@ -1,27 +1,21 @@
 -- What is written of expressions, and what a name is printed as.
-use Rattle.std.proofs.Common.{◌≡◌, ◌≢◌, ◌∙◌, ℕ, ◌+◌, ◌-◌, ◌<◌, ◌≤◌, ◌==◌, Bool, true, false, not, ◌&&◌, if◌then◌else◌, List, [], ◌∷◌, ◌++◌, length, get_or, drop, Option, Some, None, Result, Ok, Err, codes, refl, sym, ap, ap₂, append_assoc, append-nil, eqb-true, arith}
+use Rattle.std.proofs.Common.{◌≡◌, ◌≢◌, ◌∙◌, ℕ, ◌+◌, ◌<◌, ◌==◌, Bool, true, false, not, ◌&&◌, if◌then◌else◌, List, [], ◌∷◌, ◌++◌, length, get_or, drop, Option, Some, None, codes, refl, sym, ap, ap₂, append_assoc, append-nil, eqb-true, arith}
 use Rattle.std.specs.Prelude.{ℤ}
-use Rattle.std.specs.Result.{is_ok, OnOk}
 use Rattle.std.specs.Str.{bytes_eq}
 use Rattle.def_term.specs.Tree.{Tree, int, atom, pid, tuple, list, Trees, none, more, count}
 use Rattle.def_term.specs.Names.{Name}
-use Rattle.def_spec.specs.Expressions.{Dialect, Position}
+use Rattle.def_spec.specs.Expressions.{Dialect, Position, in_condition}
 use Rattle.def_fun.specs.Operators.{FunOperator, operator_name, operator_binding, left_level, right_level, PREFIX_LEVEL}
-use Rattle.def_fun.specs.FunTexts.{is_text, has_list, PrintedCall, prints_between, prints_before, prints_call, prints_nothing, operator_named, infix_operators, prefix_operators, or_call, between_or, before_or, printed_call}
+use Rattle.def_fun.specs.FunTexts.{is_text, has_list, PrintedCall, prints_between, prints_before, prints_call, prints_nothing, operator_named, infix_operators, prefix_operators, between_or, before_or, printed_call}
 use Rattle.def_fun.specs.Calls.{may_call}
 use Rattle.tn_term.specs.declared.term.Term.{Term}
 use Rattle.tn_term.specs.Views.{tree_of, trees_of}
-use Rattle.tn_fun_text.specs.Texts.{only_if, with_ends, fun_string_text, const_text, list_text, between_text, before_text, called_text, fun_call_text, computes_with, fun_expr_text, first_text, second_text, items_text}
+use Rattle.tn_fun_text.specs.Texts.{only_if, with_ends, fun_string_text, const_text, list_text, fun_call_text, computes_with, fun_expr_text, first_text, second_text, items_text, conditions_text}
 use Rattle.tn_fun_text.proofs.Loops.{next_written}
 use Rattle.tn_fun_text.proofs.Places.{first_is, alone_is, two_are, second_is, crowd}
 
--- ---- what a last call wrote
+-- ---- nothing is written
 
-pub on_extended : {T E : Type 0} (r : Result T E) (c d v z : List ℕ) → d ≡ (if is_ok r then c ++ v else c) → c ++ v ≡ z → OnOk r (d ≡ z)
-on_extended (Ok x) c d v z wrote whole = wrote ∙ whole
-on_extended (Err e) c d v z wrote whole = tt
-
--- nothing
 pub nothing_written : (o u : List ℕ) → u ≡ [] → o ≡ o ++ u
 nothing_written o u empty = sym (append-nil o) ∙ ap (λ v. o ++ v) (sym empty)
 
@@ -34,15 +28,16 @@ several_consts_text (pid n) u us = refl
 several_consts_text (tuple ts) u us = refl
 several_consts_text (list ts) u us = refl
 
+-- anything but an atom
+pub no_const_text : {A : Type 0} (o : List ℕ) (xs : List (Term A)) (x : Term A) (t : Tree) → length xs ≡ 2 → x ≡ get_or xs 1 x → tree_of x ≡ t → const_text (more t none) ≡ [] → o ≡ o ++ const_text (trees_of (drop 1 xs))
+no_const_text o xs x t two is e empty = nothing_written o (const_text (trees_of (drop 1 xs))) (ap const_text (second_is xs x t two is e) ∙ empty)
+
 -- ---- lists
 
-pub kept_list : {A : Type 0} (xs : List (Term A)) (u : List ℕ) → length xs ≢ 0 → list_text true (trees_of xs) u ≡ codes "[" ++ u ++ only_if true (codes "|\"\"") ++ codes "]"
-kept_list [] u some = absurd (some refl)
-kept_list (x ∷ xs) u some = refl
-
-pub kept_empty_list : {A : Type 0} (xs : List (Term A)) (u : List ℕ) → length xs ≡ 0 → list_text true (trees_of xs) u ≡ codes "\"\""
-kept_empty_list [] u empty = refl
-kept_empty_list (x ∷ xs) u empty = absurd (omega (arith, empty))
+pub some_list : {A : Type 0} (k : Bool) (xs : List (Term A)) (u : List ℕ) → length xs ≢ 0 → codes "[" ++ u ++ only_if k (codes "|\"\"") ++ codes "]" ≡ list_text k (trees_of xs) u
+some_list k [] u some = absurd (some refl)
+some_list true (x ∷ xs) u some = refl
+some_list false (x ∷ xs) u some = refl
 
 -- ---- what a name is printed as
 
@@ -168,3 +163,13 @@ module _ (d : Dialect) (part : Position) where
   pub empty_tuple_text : {A : Type 0} (n : ℕ) (k : Bool) (xs : List (Term A)) → length xs ≡ 0 → fun_expr_text d part n k (tuple (trees_of xs)) ≡ []
   empty_tuple_text n k [] none_there = refl
   empty_tuple_text n k (x ∷ xs) none_there = absurd (omega (arith, none_there))
+
+  pub empty_list_text : {A : Type 0} (n : ℕ) (k : Bool) (xs : List (Term A)) → length xs ≡ 0 → fun_expr_text d part n k (list (trees_of xs)) ≡ list_text k none []
+  empty_list_text n k [] none_there = refl
+  empty_list_text n k (x ∷ xs) none_there = absurd (omega (arith, none_there))
+
+-- ---- conditions
+
+pub some_conditions : {A : Type 0} (d : Dialect) (xs : List (Term A)) → length xs ≢ 0 → codes " when " ++ items_text d in_condition [] false (trees_of xs) ≡ conditions_text d (trees_of xs)
+some_conditions d [] some = absurd (some refl)
+some_conditions d (x ∷ xs) some = refl

@@ -1,13 +1,13 @@
 -- Patterns, and the greatest number of a variable in them.
 use Rattle.std.proofs.Common.{◌≡◌, ◌∙◌, ℕ, ◌+◌, ◌<◌, ◌≤◌, ◌==◌, nat_lt, max, Bool, true, false, not, ◌||◌, if◌then◌else◌, List, length, get_or, drop, Some, None, Result, Ok, Err, refl, sym, ap, subst}
-use Rattle.def_term.specs.Tree.{Tree, int, atom, pid, tuple, list, Trees, none}
+use Rattle.def_term.specs.Tree.{Tree, int, atom, pid, tuple, list, Trees}
 use Rattle.def_term.specs.Names.{Name}
 use Rattle.def_spec.specs.Reading.{AtomKind, a_variable, a_wrong_variable, a_plain_atom, atom_kind, is_wildcard}
 use Rattle.def_fun.specs.Trees as tree
 use Rattle.def_fun.specs.Trees.{FunExpr, FunExprs}
 use Rattle.def_fun.specs.Variables.{ANY}
 use Rattle.def_fun.specs.Translation.{is_variable_atom}
-use Rattle.def_fun.specs.FunTexts.{OrReason, NoFunReason, wrong_order, no_head_atom, no_pid, then_print, numbered_variable, is_text, string_expr, PrintedPattern, PrintedPatterns, pattern_variable, pattern_atom, pattern_of_term, patterns_of_terms, head_of_term}
+use Rattle.def_fun.specs.FunTexts.{OrReason, NoFunReason, wrong_order, no_head_atom, then_print, numbered_variable, is_text, string_expr, PrintedPattern, PrintedPatterns, pattern_atom, pattern_of_term, patterns_of_terms, head_of_term}
 use Rattle.tn_term.specs.declared.term.Term.{Term}
 use Rattle.tn_term.specs.Views.{tree_of, trees_of}
 use Rattle.tn_term.proofs.Trees.{here, past}

@@ -10,4 +10,5 @@ mod ExprWritten
 mod NumberedAtoms
 mod PrintedFuns
 mod WrittenTexts
+mod LastWrites
 mod SpecTerms

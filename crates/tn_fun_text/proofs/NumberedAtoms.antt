@@ -1,5 +1,5 @@
 -- The written text of a variable's atom.
-use Rattle.std.proofs.Common.{◌≡◌, ℕ, ◌<◌, ◌^◌, ◌==◌, ◌||◌, cond, List, [], ◌∷◌, ◌++◌, codes, decimal, refl, ap, ap₂, arith}
+use Rattle.std.proofs.Common.{◌≡◌, ℕ, ◌<◌, ◌^◌, List, [], ◌∷◌, ◌++◌, codes, decimal, refl, ap, ap₂, arith}
 use Rattle.std.specs.Prelude.{flat_map}
 use Rattle.std.specs.Str.Parse.{AllDigits}
 use Rattle.std.specs.Int.{IsInRange}

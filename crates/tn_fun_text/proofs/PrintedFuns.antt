@@ -1,5 +1,5 @@
 -- The text that is added, or the reason.
-use Rattle.std.proofs.Common.{◌≡◌, ◌∙◌, ℕ, List, ◌++◌, Result, Ok, Err, None, refl, sym, ap}
+use Rattle.std.proofs.Common.{◌≡◌, ◌∙◌, ℕ, List, ◌++◌, Result, Err, None, refl, sym, ap}
 use Rattle.def_term.specs.Tree.{Tree}
 use Rattle.def_spec.specs.Expressions.{Dialect}
 use Rattle.def_fun.specs.FunTexts.{NoFun, fun_printed}

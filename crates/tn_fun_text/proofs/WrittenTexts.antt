@@ -1,5 +1,5 @@
 -- The text of a fun is the one that is written from left to right.
-use Rattle.std.proofs.Common.{◌≡◌, ◌∙◌, ℕ, zero, suc, ◌+◌, ◌==◌, nat_le, nat_lt, max, Bool, true, false, not, ◌&&◌, ◌||◌, if◌then◌else◌, List, [], ◌∷◌, ◌++◌, map, Option, Some, None, Result, Ok, Err, codes, decimal, refl, sym, ap, ap₂, subst, append-nil, append_assoc, arith}
+use Rattle.std.proofs.Common.{◌≡◌, ◌∙◌, ℕ, suc, ◌+◌, ◌==◌, nat_le, nat_lt, max, Bool, true, false, not, ◌&&◌, ◌||◌, if◌then◌else◌, List, [], ◌∷◌, ◌++◌, map, Option, Some, None, Result, Ok, Err, codes, refl, sym, ap, ap₂, subst, append-nil, append_assoc, arith}
 use Rattle.std.specs.Prelude.{ℤ, pos, negsuc, flat_map}
 use Rattle.std.specs.Str.{bytes_eq}
 use Rattle.std.specs.Fmt.{signed_decimal}
@@ -17,8 +17,8 @@ use Rattle.def_fun.specs.Trees as tree
 use Rattle.def_fun.specs.Trees.{FunExpr, FunExprs}
 use Rattle.def_fun.specs.Calls.{may_call}
 use Rattle.def_fun.specs.Translation.{begins_with_dollar, is_variable_atom}
-use Rattle.def_fun.specs.FunTexts.{OrReason, NoFunReason, wrong_order, no_head_atom, no_dollar_atom, no_other_const, NoFun, then_print, then_clause, reason_at, ClausePart, the_head, the_condition, the_expression, numbered_variable, integer_expr, is_text, character_code, string_character, string_expr, PrintedPattern, pattern_variable, pattern_atom, pattern_of_term, patterns_of_terms, head_of_term, expr_level, in_level, first_changed, tuple_changed, with_string, with_string_in, infix_operators, prefix_operators, operator_named, PrintedCall, prints_between, prints_before, prints_call, prints_nothing, or_call, between_or, before_or, printed_call, has_list, have_list, operator_expr, operands_kept, atom_printed, const_printed, unless_computed, call_printed, expr_of_term, exprs_of_terms, joined_with, string_text, prefix_text, expr_text, expr_texts, parts_printed, when_text, body_printed, clause_of_parts_printed, clause_printed, clauses_printed, CLAUSE_BREAK, fun_text, fun_printed, would_compute, computation_of, values_in_fun}
-use Rattle.tn_fun_text.specs.Texts.{variable_text, only_if, with_ends, each_character, fun_string_text, pattern_atom_text, pattern_text, patterns_text, head_text, plain_atom_text, expr_atom_text, const_text, list_text, between_text, before_text, called_text, fun_call_text, computes_with, fun_expr_text, first_text, second_text, items_text, conditions_text, parts_text, fun_clause_text, clauses_text, whole_text}
+use Rattle.def_fun.specs.FunTexts.{OrReason, NoFunReason, wrong_order, no_head_atom, no_dollar_atom, no_other_const, NoFun, then_print, then_clause, reason_at, ClausePart, the_head, the_condition, the_expression, numbered_variable, integer_expr, is_text, character_code, string_character, string_expr, PrintedPattern, pattern_atom, pattern_of_term, patterns_of_terms, head_of_term, expr_level, in_level, first_changed, tuple_changed, with_string, with_string_in, infix_operators, prefix_operators, operator_named, PrintedCall, prints_between, prints_before, prints_call, prints_nothing, or_call, between_or, before_or, printed_call, has_list, have_list, operator_expr, operands_kept, atom_printed, const_printed, unless_computed, call_printed, expr_of_term, exprs_of_terms, joined_with, prefix_text, expr_text, expr_texts, parts_printed, when_text, body_printed, clause_of_parts_printed, clause_printed, clauses_printed, CLAUSE_BREAK, fun_text, fun_printed, would_compute, computation_of, values_in_fun}
+use Rattle.tn_fun_text.specs.Texts.{variable_text, only_if, with_ends, each_character, fun_string_text, pattern_atom_text, pattern_text, patterns_text, head_text, expr_atom_text, const_text, list_text, between_text, before_text, called_text, fun_call_text, fun_expr_text, first_text, second_text, items_text, conditions_text, parts_text, fun_clause_text, clauses_text, whole_text}
 
 -- ---- what a result is
 

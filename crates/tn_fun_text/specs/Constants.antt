@@ -1,5 +1,5 @@
 -- What an operator of constants gives, and what of the definition that stands for.
-use Rattle.std.specs.Prelude.{◌≡◌, ℤ, Bool, true, false}
+use Rattle.std.specs.Prelude.{◌≡◌, ℤ}
 use Rattle.def_term.specs.Tree.{int}
 use Rattle.def_fun.specs.Constants as constants
 use Rattle.def_fun.specs.Constants.{not_computed, gives, gives_too_large, gives_integer, gives_truth}

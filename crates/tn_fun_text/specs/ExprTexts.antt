@@ -1,5 +1,5 @@
 -- The texts of a vector's terms as expressions.
-use Rattle.std.specs.Prelude.{ℕ, Bool, false, not, ◌&&◌, if◌then◌else◌, List, []}
+use Rattle.std.specs.Prelude.{ℕ, Bool, false, List, []}
 use Rattle.std.specs.declared.vec.Vec.{Vec}
 use Rattle.def_term.specs.Tree.{Tree, atom, tuple, list, Trees, more}
 use Rattle.def_term.specs.Names.{Name}

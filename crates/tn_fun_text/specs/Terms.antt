@@ -1,5 +1,5 @@
 -- The trees of a vector's terms.
-use Rattle.std.specs.Prelude.{ℕ, List, drop}
+use Rattle.std.specs.Prelude.{ℕ, drop}
 use Rattle.std.specs.declared.vec.Vec.{Vec}
 use Rattle.def_term.specs.Tree.{Trees}
 use Rattle.tn_term.specs.declared.term.Term.{Term}

@@ -1,5 +1,5 @@
 -- The values of terms that a fun would have as constants.
-use Rattle.std.specs.Prelude.{ℕ, Bool, false, not, ◌&&◌, ◌||◌, if◌then◌else◌, List, ◌++◌, map, Option, Some, None, codes}
+use Rattle.std.specs.Prelude.{Bool, false, not, ◌&&◌, List, ◌++◌, map, Option, Some, None}
 use Rattle.std.specs.Option.{option_map}
 use Rattle.std.specs.declared.vec.Vec.{Vec}
 use Rattle.def_term.specs.Tree.{Tree, atom, tuple, Trees, more, of_elements, count}
@@ -7,7 +7,7 @@ use Rattle.def_term.specs.Names.{Name}
 use Rattle.def_spec.specs.Reading.{AtomKind, a_variable, atom_kind, is_wildcard}
 use Rattle.def_fun.specs.Constants.{Computation, gives}
 use Rattle.def_fun.specs.Translation.{begins_with_dollar, constant_of}
-use Rattle.def_fun.specs.FunTexts.{PrintedCall, printed_call, computation_of, value_in_fun, values_in_fun, value_of_atom, value_unless}
+use Rattle.def_fun.specs.FunTexts.{PrintedCall, printed_call, computation_of, value_in_fun, values_in_fun, value_of_atom}
 use Rattle.tn_term.specs.declared.term.Term.{Term}
 use Rattle.tn_term.specs.Views.{tree_of, trees_of}
 use Rattle.tn_spec.specs.Names.{position_seen}

@@ -120,7 +120,9 @@ fn check_call<'a, A: Allocator + Copy>(
 {
     let count = terms.len() - 1;
     match printed_call(scope.dialect, scope.part, name.text(), count) {
-        PrintedCall::Between(_) | PrintedCall::Before(_) => check_operator(scope, terms, name, term),
+        PrintedCall::Between(_) | PrintedCall::Before(_) => check_operator(
+            scope, terms, name, term,
+        ),
         PrintedCall::Call => Ok(()),
         PrintedCall::Nothing => Err(CheckFault::Reason(Reason::NoCall(name.text(), count))),
     }
@@ -179,7 +181,10 @@ fn check_tuple<'a, A: Allocator + Copy>(
             }
         }
         Term::Atom(name) => check_named(scope, terms, name, term),
-        Term::Int(_) | Term::Pid(_) | Term::List(_) => Err(CheckFault::Reason(Reason::NoCall("", terms.len()))),
+        Term::Int(_) | Term::Pid(_) | Term::List(_) => Err(CheckFault::Reason(Reason::NoCall(
+            "",
+            terms.len(),
+        ))),
     }
 }
 

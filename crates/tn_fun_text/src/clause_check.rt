@@ -64,7 +64,11 @@ fn check_part<'a, A: Allocator + Copy>(
 {
     match check_expr(scope, term) {
         Ok(()) => Ok(()),
-        Err(CheckFault::Reason(reason)) => Err(in_part(clause, part_numbered(scope.part, number), reason)),
+        Err(CheckFault::Reason(reason)) => Err(in_part(
+            clause,
+            part_numbered(scope.part, number),
+            reason,
+        )),
         Err(CheckFault::OutOfMemory) => Err(FunTextFault::OutOfMemory),
     }
 }

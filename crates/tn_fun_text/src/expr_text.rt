@@ -1,11 +1,11 @@
 // The texts of expressions.
-ghost use Rattle.std.specs.Prelude.{◌≡◌, ◌++◌, ◌<◌, ◌&&◌, not, OnOk, length, codes};
-ghost use Rattle.def_term.specs.Tree.{tuple};
+ghost use Rattle.std.specs.Prelude.{◌≡◌, ◌++◌, ◌<◌, ◌&&◌, not, OnOk, length, [], codes};
+ghost use Rattle.def_term.specs.Tree.{tuple, none};
 ghost use Rattle.def_spec.specs.Reading.{atom_kind};
 ghost use Rattle.def_fun.specs.FunTexts.{has_list as has_a_list};
 ghost use Rattle.tn_term.specs.Views.{tree_of, trees_of};
 ghost use Rattle.tn_fun.specs.Tokens.{operator_seen};
-ghost use Rattle.tn_fun_text.specs.Texts.{expr_atom_text, plain_atom_text, const_text, with_ends};
+ghost use Rattle.tn_fun_text.specs.Texts.{expr_atom_text, plain_atom_text, const_text, list_text, with_ends};
 ghost use Rattle.tn_fun_text.specs.Terms.{terms_from};
 ghost use Rattle.tn_fun_text.specs.ExprTexts.{text_at, named_text_at, items_at, list_at, between_at};
 ghost use Rattle.tn_fun_text.specs.ExprTexts.{before_at, call_at};
@@ -52,10 +52,7 @@ fn put_expr_atom<A: Allocator>(name: &Atom<A>, out: &mut Vec<u8, A>) -> Result<(
 }
 
 /// Appends `{const,A}` of these elements as A.
-fn put_const<A: Allocator>(
-    terms: &Vec<Term<A>, A>,
-    out: &mut Vec<u8, A>,
-) -> Result<(), AllocError>
+fn put_const<A: Allocator>(terms: &Vec<Term<A>, A>, out: &mut Vec<u8, A>) -> Result<(), AllocError>
     ensures { OnOk result (out.new.items ≡ out.old.items ++ const_text (terms_from 1 terms.now)) }
 {
     if terms.len() != 2 {
@@ -64,6 +61,17 @@ fn put_const<A: Allocator>(
     match &terms[1] {
         Term::Atom(name) => write_atom(name, out),
         Term::Int(_) | Term::Pid(_) | Term::Tuple(_) | Term::List(_) => Ok(()),
+    }
+}
+
+/// Appends a list without elements: a string, where it keeps an operator from being computed.
+fn put_empty_list<A: Allocator>(keeps: bool, out: &mut Vec<u8, A>) -> Result<(), AllocError>
+    ensures { OnOk result (out.new.items ≡ out.old.items ++ list_text keeps none []) }
+{
+    if keeps {
+        out.extend_from_slice(b"\"\"")
+    } else {
+        out.extend_from_slice(b"[]")
     }
 }
 
@@ -115,8 +123,8 @@ fn put_list<A: Allocator + Copy>(
     if is_text(terms) {
         return put_string(terms, out);
     }
-    if keeps && terms.is_empty() {
-        return out.extend_from_slice(b"\"\"");
+    if terms.is_empty() {
+        return put_empty_list(keeps, out);
     }
     out.extend_from_slice(b"[")?;
     put_items(scope, false, terms, 0, out)?;
@@ -213,7 +221,8 @@ fn put_between<A: Allocator + Copy>(
         ++ between_at scope level (operator_seen operator) keeps terms.now) }
 {
     let opens = level_of(operator) < level;
-    let (left, right) = (&terms[1], &terms[2]);
+    let left = &terms[1];
+    let right = &terms[2];
     let left_keeps = keeps_in(keeps, left);
     let right_keeps = keeps_in(keeps_after(keeps, left_keeps), right);
     out.extend_from_slice(only_if(opens, b"("))?;

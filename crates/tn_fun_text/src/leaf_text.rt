@@ -47,10 +47,7 @@ fn code_of<A: Allocator>(term: &Term<A>) -> u8
 }
 
 /// Appends the characters of a string.
-fn put_codes<A: Allocator>(
-    terms: &Vec<Term<A>, A>,
-    out: &mut Vec<u8, A>,
-) -> Result<(), AllocError>
+fn put_codes<A: Allocator>(terms: &Vec<Term<A>, A>, out: &mut Vec<u8, A>) -> Result<(), AllocError>
     requires { are_character_codes (trees_of terms.now.items) ≡ true }
     ensures { OnOk result (out.new.items ≡ out.old.items ++ each_character (trees_of terms.now.items)) }
 {

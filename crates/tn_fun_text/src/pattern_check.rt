@@ -92,10 +92,7 @@ fn check_pattern_atom<'a, A: Allocator>(
 
 /// A term as a pattern, after the greatest number so far: the greatest number.
 #[cycle(pattern)]
-fn check_pattern<'a, A: Allocator>(
-    greatest: u16,
-    term: &'a Term<A>,
-) -> Result<u16, Reason<'a, A>>
+fn check_pattern<'a, A: Allocator>(greatest: u16, term: &'a Term<A>) -> Result<u16, Reason<'a, A>>
     requires { greatest ≤ 999 }
     ensures { IsGreatest (pattern_of_term greatest (tree_of term.now)) result }
 {

@@ -13,10 +13,7 @@ use tn_term::{Atom, Term};
 use tn_text::{write_atom, write_decimal};
 
 /// Appends an atom of a head.
-fn put_pattern_atom<A: Allocator>(
-    name: &Atom<A>,
-    out: &mut Vec<u8, A>,
-) -> Result<(), AllocError>
+fn put_pattern_atom<A: Allocator>(name: &Atom<A>, out: &mut Vec<u8, A>) -> Result<(), AllocError>
     ensures { OnOk result (out.new.items ≡ out.old.items ++ pattern_atom_text name.now (atom_kind name.now)) }
 {
     match kind_of(name.text()) {

@@ -37,7 +37,8 @@ fn is_constant(text: &str) -> bool
 {
     match kind_of(text) {
         AtomKind::Variable(_) => false,
-        AtomKind::WrongVariable | AtomKind::Plain => !is_anything(text) && !begins_with_dollar(text),
+        AtomKind::WrongVariable | AtomKind::Plain => !is_anything(text)
+            && !begins_with_dollar(text),
     }
 }
 

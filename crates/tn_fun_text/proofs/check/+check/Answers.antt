@@ -1,7 +1,6 @@
 use Rattle.std.proofs.Common.{◌≢◌, None, refl, sym, ap, subst, ◌∙◌, length, arith, inl, inr}
 use Rattle.std.proofs.lemmas.Result.{err_from_is_err_and}
 use Rattle.std.specs.Option.{option_or}
-use Rattle.def_term.specs.Tree.{atom, tuple, list}
 use Rattle.def_fun.specs.FunTexts.{expr_of_term, exprs_of_terms}
 use Rattle.tn_term.specs.Views.{tree_of, trees_of}
 use Rattle.tn_term.proofs.Views.{tree_of_int, tree_of_atom, tree_of_pid, tree_of_tuple, tree_of_list}

@@ -1,11 +1,11 @@
 use Rattle.std.proofs.Common.{Some, ap, ap₂, sym, ◌∙◌, ◌≡◌, ◌-◌, length, arith, inl, inr}
-use Rattle.def_fun.specs.FunTexts.{NoFunReason, no_such_call, printed_call}
-use Rattle.tn_term.specs.Views.{tree_of, trees_of}
+use Rattle.def_fun.specs.FunTexts.{no_such_call, printed_call}
+use Rattle.tn_term.specs.Views.{tree_of}
 use Rattle.tn_fun.specs.Tokens.{operator_seen}
 use Rattle.tn_spec.specs.Names.{position_seen}
 use Rattle.tn_spec.specs.Views.{dialect_of}
 use Rattle.tn_fun_text.specs.Calls.{printed_call_seen}
-use Rattle.tn_fun_text.specs.Checks.{fun_call_reason, call_reason_at}
+use Rattle.tn_fun_text.specs.Checks.{fun_call_reason}
 use Rattle.tn_fun_text.specs.Terms.{terms_from}
 use Rattle.tn_fun_text.specs.Values.{computation_at}
 use Rattle.def_fun.specs.FunTexts.{would_compute}

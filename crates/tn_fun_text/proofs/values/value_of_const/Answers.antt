@@ -1,5 +1,5 @@
 use Rattle.std.proofs.Common.{Some, None, refl, sym, ap, ◌∙◌, arith, inl, inr}
-use Rattle.def_term.specs.Tree.{Trees, int, atom, pid, tuple, list}
+use Rattle.def_term.specs.Tree.{int, atom, pid, tuple, list}
 use Rattle.def_fun.specs.FunTexts.{value_of_const}
 use Rattle.tn_term.specs.Views.{tree_of, trees_of}
 use Rattle.tn_term.proofs.Views.{tree_of_int, tree_of_atom, tree_of_pid, tree_of_tuple, tree_of_list}
