@@ -1,7 +1,9 @@
 // The command `fun --pretty`: the fun of a specification's text.
+ghost use Rattle.std.specs.Prelude.{◌≡◌, IfOk, Ok};
 ghost use Rattle.std.specs.Process.{exit_status};
-ghost use Rattle.tn_command.specs.Status.{IsStatus};
-ghost use Rattle.tn_fun_command.specs.PrettyEnds.{AnswersSpec, WritesAnswer};
+ghost use Rattle.tn_command.specs.Status.{IsStatus, REFUSED_STATUS};
+ghost use Rattle.tn_fun_command.specs.PrettyEnds.{AnswersSpec, WritesAnswer, WritesFun};
+ghost use Rattle.tn_fun_text.specs.declared.funs_of_specs.FunOfSpec.TheVariants.{Fun};
 
 use std::alloc::{Allocator, Global};
 use std::io;
@@ -15,21 +17,16 @@ use tn_spec::Dialect;
 use tn_text::Watched;
 use tn_verdict::{SpecTestFault, SpecTestInput};
 
-/// Writes an answer: the fun, or nothing where there is none.
-fn write_answer<A: Allocator, W: Write>(
+/// Writes a fun.
+fn write_text<A: Allocator, W: Write>(
     writer: &mut Watched<W>,
-    answer: FunOfSpec<A>,
+    text: Vec<u8, A>,
 ) -> JobEnd<FunOfSpec<A>, RunFault>
-    ensures written { WritesAnswer W.contents writer.old writer.new answer.entry
+    ensures same { IfOk result.answer (λ a. a ≡ Fun text.entry) }
+    ensures written { WritesFun W.contents writer.old writer.new text.entry.items
         (exit_status result.status) result.answer }
     ensures status { IsStatus (exit_status result.status) }
 {
-    let FunOfSpec::Fun(text) = answer else {
-        return JobEnd {
-            status: ExitCode::from(REFUSED),
-            answer: Ok(answer),
-        };
-    };
     match write_output(writer, &text) {
         Ok(()) => JobEnd {
             status: ExitCode::SUCCESS,
@@ -39,6 +36,34 @@ fn write_answer<A: Allocator, W: Write>(
             status: ExitCode::from(FAULT),
             answer: Err(fault),
         },
+    }
+}
+
+/// The end of an answer that has no fun: nothing is written.
+fn end_without_fun<A: Allocator>(answer: FunOfSpec<A>) -> JobEnd<FunOfSpec<A>, RunFault>
+    ensures same { result.answer ≡ Ok answer.entry }
+    ensures status { exit_status result.status ≡ REFUSED_STATUS }
+{
+    JobEnd {
+        status: ExitCode::from(REFUSED),
+        answer: Ok(answer),
+    }
+}
+
+/// Writes an answer: the fun, or nothing where there is none.
+fn write_answer<A: Allocator, W: Write>(
+    writer: &mut Watched<W>,
+    answer: FunOfSpec<A>,
+) -> JobEnd<FunOfSpec<A>, RunFault>
+    ensures written { WritesAnswer W.contents writer.old writer.new answer.entry
+        (exit_status result.status) result.answer }
+    ensures status { IsStatus (exit_status result.status) }
+{
+    match answer {
+        FunOfSpec::Fun(text) => write_text(writer, text),
+        FunOfSpec::NoFun(line) => end_without_fun(FunOfSpec::NoFun(line)),
+        FunOfSpec::NoTerm(fault) => end_without_fun(FunOfSpec::NoTerm(fault)),
+        FunOfSpec::NoSpec(fault) => end_without_fun(FunOfSpec::NoSpec(fault)),
     }
 }
 
