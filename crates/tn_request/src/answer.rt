@@ -2,6 +2,7 @@
 ghost use Rattle.std.specs.Prelude.{◌≡◌};
 ghost use Rattle.std.specs.Process.{exit_status};
 ghost use Rattle.tn_run.specs.Jobs.{Meets};
+ghost use Rattle.tn_command.specs.Explorations.{IsExplorationStatus};
 ghost use Rattle.tn_command.specs.PrintedJobs.{IsPrintedAs};
 ghost use Rattle.tn_command.specs.Status.{IsStatus, OnFaultUntouchedOrFailed, WroteAs, status_of};
 ghost use Rattle.tn_request.specs.Explorations.{IsRequestStatus};
@@ -133,7 +134,8 @@ pub fn answer_request<R: Input + Files + Print + Eprint + AllocGlobal + Threads 
     form: OutputForm,
     expectation: &Expectation<'_>,
 ) -> ExitCode
-    ensures { IsRequestStatus request.now (exit_status result) }
+    ensures one { IsExplorationStatus (exit_status result) }
+    ensures status { IsRequestStatus request.now (exit_status result) }
 {
     match request {
         Request::Run(run) => perform_request(rt, run, read, form, expectation),
