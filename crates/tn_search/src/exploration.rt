@@ -1,5 +1,5 @@
 // The search through all schedules of a program.
-ghost use Rattle.std.specs.Prelude.{IfOk, true, false};
+ghost use Rattle.std.specs.Prelude.{IfOk};
 ghost use Rattle.tn_program.specs.Views.{program_of};
 ghost use Rattle.tn_search.specs.States.{ExploresProgram, IsStateAfter, is_by_process};
 
@@ -43,31 +43,18 @@ fn state_after<'p, A: Allocator + Copy, K: SearchSink<A> + Drop>(
     })
 }
 
-/// The search through all schedules that begin with some picks, where all messages of a session are in an order.
-fn explore_total<'p, A: Allocator + Copy>(
+/// The search through all schedules that begin with some picks, by what a state keeps of messages.
+fn explore_by<'p, A: Allocator + Copy, K: SearchSink<A> + Drop>(
     alloc: A,
     program: &'p Program<A>,
     before: &[u32],
     places: &'p [usize],
     max_states: usize,
 ) -> Result<Exploration<A, KeptListings<A>>, AllocError>
-    ensures { IfOk result (ExploresProgram false (program_of program.now) before.now places.now max_states) }
+    ensures { let p = program_of program.now in
+        IfOk result (ExploresProgram K.is_by_process p before.now places.now max_states) }
 {
-    let first = state_after::<A, TotalSink<A>>(alloc, program, before, places)?;
-    explore(alloc, first, max_states)
-}
-
-/// The search through all schedules that begin with some picks, where those of one process are.
-fn explore_by_process<'p, A: Allocator + Copy>(
-    alloc: A,
-    program: &'p Program<A>,
-    before: &[u32],
-    places: &'p [usize],
-    max_states: usize,
-) -> Result<Exploration<A, KeptListings<A>>, AllocError>
-    ensures { IfOk result (ExploresProgram true (program_of program.now) before.now places.now max_states) }
-{
-    let first = state_after::<A, ProcessSink<A>>(alloc, program, before, places)?;
+    let first = state_after::<A, K>(alloc, program, before, places)?;
     explore(alloc, first, max_states)
 }
 
@@ -89,7 +76,11 @@ pub fn explore_program<A: Allocator + Copy>(
         IfOk result (ExploresProgram (is_by_process order) p before.now places.now max_states) }
 {
     match order {
-        ListingOrder::Total => explore_total(alloc, program, before, places, max_states),
-        ListingOrder::ByProcess => explore_by_process(alloc, program, before, places, max_states),
+        ListingOrder::Total => explore_by::<A, TotalSink<A>>(
+            alloc, program, before, places, max_states,
+        ),
+        ListingOrder::ByProcess => explore_by::<A, ProcessSink<A>>(
+            alloc, program, before, places, max_states,
+        ),
     }
 }
