@@ -19,6 +19,7 @@ use Rattle.def_explore.specs.Rests.{IsMovingAfter, KeptMessages, kept_in}
 use Rattle.def_explore.proofs.Passes.{moves_are_of_a_pass}
 use Rattle.tn_term.specs.Views.{alive_of}
 use Rattle.tn_program.specs.Views.{program_of}
+use Rattle.tn_program.specs.declared.parts.Program as code
 use Rattle.tn_node.specs.Nodes.{NodeValue, node_at, state_in}
 use Rattle.tn_trace.specs.Tracks.{tracks_of}
 use Rattle.tn_trace.specs.Recorders.{HasRecorded}
@@ -64,38 +65,38 @@ full_idles p picks pick all full =
     let long : length (moves p picks) ≡ length picks = ap length all in
     full_journal_stays p picks pick (omega arith)
 
--- a state with the same program and sessions as another, whose run is by these picks
-state_at_run : {A K : Type 0} (Keeps : K → List Tree → Type 0) (b : Bool) (s t : ProgramState A K) (a : Query) → IsStateFor Keeps b s a → (picks : List ℕ) → program_of t.program.now ≡ program_of s.program.now → t.places.now ≡ s.places.now
-    → IsRun (HasRecorded Keeps) a.program JOURNAL picks t.run → IsStateFor Keeps b t a
-state_at_run Keeps b s t a is picks program places after = record {
-  program = program ∙ is.program;
+-- a state with the same sessions as another, whose run is by these picks
+state_at_run : {A K : Type 0} (Keeps : K → List Tree → Type 0) (b : Bool) (x : code.Program A) (s t : ProgramState A K) (a : Query) → IsStateFor Keeps b x s a → (picks : List ℕ) → t.places.items ≡ s.places.items
+    → IsRun (HasRecorded Keeps) a.program JOURNAL picks t.run → IsStateFor Keeps b x t a
+state_at_run Keeps b x s t a is picks places after = record {
+  program = is.program;
   run = subst (λ xs. IsRun (HasRecorded Keeps) a.program JOURNAL xs t.run) (sym after.journaled) after;
   question = is.question;
   sessions = is.sessions ∙ ap (names_at a.program) (sym places);
 }
 
-pub shared : {A K : Type 0} (Keeps : K → List Tree → Type 0) (b : Bool) (s t : ProgramState A K) (a : Query) → IsStateFor Keeps b s a → program_of t.program.now ≡ program_of s.program.now → t.places.now ≡ s.places.now
-    → IsRunCopy Keeps s.run t.run → (state_journal t ≡ state_journal s) × IsStateFor Keeps b t a
-shared Keeps b s t a is program places shares =
+pub shared : {A K : Type 0} (Keeps : K → List Tree → Type 0) (b : Bool) (x : code.Program A) (s t : ProgramState A K) (a : Query) → IsStateFor Keeps b x s a → t.places.items ≡ s.places.items
+    → IsRunCopy Keeps s.run t.run → (state_journal t ≡ state_journal s) × IsStateFor Keeps b x t a
+shared Keeps b x s t a is places shares =
     let after : IsRun (HasRecorded Keeps) a.program JOURNAL (state_journal s) t.run = shares a.program JOURNAL (state_journal s) is.run in
-    (after.journaled, state_at_run Keeps b s t a is (state_journal s) program places after)
+    (after.journaled, state_at_run Keeps b x s t a is (state_journal s) places after)
 
-module _ {A K G : Type 0} (Keeps : K → List Tree → Type 0) (b : Bool) (Adds : Program → List ℕ → ℕ → Recorder A K → Recorder A K → G → G → Type 0) (s : ProgramState A K) (a : Query) (is : IsStateFor Keeps b s a)
+module _ {A K G : Type 0} (Keeps : K → List Tree → Type 0) (b : Bool) (Adds : Program → List ℕ → ℕ → Recorder A K → Recorder A K → G → G → Type 0) (x : code.Program A) (s : ProgramState A K) (a : Query) (is : IsStateFor Keeps b x s a)
     (new : Run A (Recorder A K)) (pick : ℕ) (out out' : G) (o : PickOutcome)
-    (takes : (limit : ℕ) (picks : List ℕ) → IsRun (HasRecorded Keeps) (program_of s.program.now) limit picks s.run → Steps (HasRecorded Keeps) Adds (program_of s.program.now) limit picks pick o s.run new out out') where
+    (takes : (limit : ℕ) (picks : List ℕ) → IsRun (HasRecorded Keeps) (program_of x) limit picks s.run → Steps (HasRecorded Keeps) Adds (program_of x) limit picks pick o s.run new out out') where
   came : (w : PickOutcome) → o ≡ w → Steps (HasRecorded Keeps) Adds a.program JOURNAL (state_journal s) pick w s.run new out out'
   came w same =
-      let own : IsRun (HasRecorded Keeps) (program_of s.program.now) JOURNAL (state_journal s) s.run = subst (λ p. IsRun (HasRecorded Keeps) p JOURNAL (state_journal s) s.run) (sym is.program) is.run in
-      subst (λ x. Steps (HasRecorded Keeps) Adds a.program JOURNAL (state_journal s) pick x s.run new out out') same
+      let own : IsRun (HasRecorded Keeps) (program_of x) JOURNAL (state_journal s) s.run = subst (λ p. IsRun (HasRecorded Keeps) p JOURNAL (state_journal s) s.run) (sym is.program) is.run in
+      subst (λ y. Steps (HasRecorded Keeps) Adds a.program JOURNAL (state_journal s) pick y s.run new out out') same
       (subst (λ p. Steps (HasRecorded Keeps) Adds p JOURNAL (state_journal s) pick o s.run new out out') is.program (takes JOURNAL (state_journal s) own))
 
-  pub on_moved : (t : ProgramState A K) → o ≡ Moved → program_of t.program.now ≡ program_of s.program.now → t.places.now ≡ s.places.now → t.run ≡ new → StepGives state_journal (IsStateFor Keeps b) a (state_journal s) pick t true
-  on_moved t same program places run =
+  pub on_moved : (t : ProgramState A K) → o ≡ Moved → t.places.items ≡ s.places.items → t.run ≡ new → StepGives state_journal (IsStateFor Keeps b x) a (state_journal s) pick t true
+  on_moved t same places run =
       let h = came Moved same in
       let after : IsRun (HasRecorded Keeps) a.program JOURNAL (state_journal s ++ pick ∷ []) t.run = subst (IsRun (HasRecorded Keeps) a.program JOURNAL (state_journal s ++ pick ∷ [])) (sym run) h.1 in (
         moves_then a.program (state_journal s) pick is.run.moved after.moved,
         after.journaled,
-        state_at_run Keeps b s t a is (state_journal s ++ pick ∷ []) program places after,
+        state_at_run Keeps b x s t a is (state_journal s ++ pick ∷ []) places after,
       )
 
   pub on_idle : o ≡ Idle → IsIdleAfter a.program (state_journal s) pick
@@ -106,11 +107,11 @@ module _ {A K G : Type 0} (Keeps : K → List Tree → Type 0) (b : Bool) (Adds 
 
 -- ---- picks
 
-module _ {A K : Type 0} (Keeps : K → List Tree → Type 0) (b : Bool) (s : ProgramState A K) (a : Query) (is : IsStateFor Keeps b s a) where
+module _ {A K : Type 0} (Keeps : K → List Tree → Type 0) (b : Bool) (x : code.Program A) (s : ProgramState A K) (a : Query) (is : IsStateFor Keeps b x s a) where
   few : length a.program.entries ≤ 64
   few =
-      let same : length a.program.entries ≡ length s.program.now.entries.items = ap (λ (p : Program). length p.entries) (sym is.program) ∙ length-map s.program.now.entries.items _ in
-      let most : length s.program.now.entries.items ≤ 16 = s.program.now.few_processes in
+      let same : length a.program.entries ≡ length x.entries.items = ap (λ (p : Program). length p.entries) (sym is.program) ∙ length-map x.entries.items _ in
+      let most : length x.entries.items ≤ 16 = x.few_processes in
       omega arith
 
   pub all_moves : (node : Option NodeValue) (picks moving : List ℕ) (pick : ℕ) → node ≡ s.run.node → picks ≡ pass → length (state_journal s) < 65536 → HasMovesAmong node picks moving → IsMovingAfter a.program (state_journal s) pick → Contains moving pick
@@ -128,21 +129,21 @@ module _ {A K : Type 0} (Keeps : K → List Tree → Type 0) (b : Bool) (s : Pro
 
   -- ---- what is kept
 
-  pub observed : (sinks : List K) (kept : KeptMessages) → AreKeptAt Keeps s.places.now s.run.observer.slots.items sinks → ((mss : List (List Tree)) → AreSinksOf Keeps mss sinks → kept ≡ kept_lists b mss) → kept ≡ kept_for a (state_journal s)
+  pub observed : (sinks : List K) (kept : KeptMessages) → AreKeptAt Keeps s.places.items s.run.observer.slots.items sinks → ((mss : List (List Tree)) → AreSinksOf Keeps mss sinks → kept ≡ kept_lists b mss) → kept ≡ kept_for a (state_journal s)
   observed sinks kept at gathers =
       let p : Program = a.program in
-      let mss : List (List Tree) = track_messages (elements_at s.places.now (tracks_of p (state_journal s))) in
+      let mss : List (List Tree) = track_messages (elements_at s.places.items (tracks_of p (state_journal s))) in
       gathers mss (at (exports_of p) (alive_of s.run.observer.living) (tracks_of p (state_journal s)) is.run.seen.sessions)
-      ∙ ap (kept_lists b) (messages_at p (state_journal s) s.places.now)
-      ∙ sym (kept_of_lists b (names_at p s.places.now) (λ x. messages x p (state_journal s)))
-      ∙ ap (λ q. kept_in q (names_at p s.places.now) p (state_journal s)) (sym is.question)
+      ∙ ap (kept_lists b) (messages_at p (state_journal s) s.places.items)
+      ∙ sym (kept_of_lists b (names_at p s.places.items) (λ y. messages y p (state_journal s)))
+      ∙ ap (λ q. kept_in q (names_at p s.places.items) p (state_journal s)) (sym is.question)
       ∙ ap (λ ss. kept_in a.question ss p (state_journal s)) (sym is.sessions)
 
 -- ---- the same state
 
-module _ {A K : Type 0} (Keeps : K → List Tree → Type 0) (b : Bool) (s t : ProgramState A K) (a : Query) (is : IsStateFor Keeps b s a) (also : IsStateFor Keeps b t a) where
-  some_state : (x y : NodeState) → Some x ≡ Some y → x ≡ y
-  some_state x y e = cc
+module _ {A K : Type 0} (Keeps : K → List Tree → Type 0) (b : Bool) (x : code.Program A) (s t : ProgramState A K) (a : Query) (is : IsStateFor Keeps b x s a) (also : IsStateFor Keeps b x t a) where
+  some_state : (m n : NodeState) → Some m ≡ Some n → m ≡ n
+  some_state m n e = cc
 
   same_place : length (state_journal s) ≡ length (state_journal t) → state_in s.run.node ≡ state_in t.run.node → run_state_of a.program (state_journal s) ≡ run_state_of a.program (state_journal t)
   same_place long node =
@@ -151,32 +152,35 @@ module _ {A K : Type 0} (Keeps : K → List Tree → Type 0) (b : Bool) (s t : P
       (ap length is.run.moved ∙ long ∙ sym (ap length also.run.moved))
 
   pub same_states : length (state_journal s) ≡ length (state_journal t) → state_in s.run.node ≡ state_in t.run.node → alive_of s.run.observer.living ≡ alive_of t.run.observer.living
-      → EachOf (AreSameAt Keeps b s.run.observer.slots.items t.run.observer.slots.items) s.places.now → AlikeFor a (state_journal s) (state_journal t)
+      → EachOf (AreSameAt Keeps b s.run.observer.slots.items t.run.observer.slots.items) s.places.items → AlikeFor a (state_journal s) (state_journal t)
   same_states long node living each =
       let place = same_place long node in
       let r = alike_at Keeps b a.program (state_journal s) (state_journal t) (alive_of s.run.observer.living) (alive_of t.run.observer.living) s.run.observer.slots.items t.run.observer.slots.items
-      (ap (λ (x : RunState). x.commands) place) living is.run.seen.sessions also.run.seen.sessions s.places.now each in
+      (ap (λ (r : RunState). r.commands) place) living is.run.seen.sessions also.run.seen.sessions s.places.items each in
       subst (λ ss. IsStateAlike a.question ss a.program (state_journal s) (state_journal t)) (sym is.sessions)
-      (subst (λ q. IsStateAlike q (names_at a.program s.places.now) a.program (state_journal s) (state_journal t)) (sym is.question)
+      (subst (λ q. IsStateAlike q (names_at a.program s.places.items) a.program (state_journal s) (state_journal t)) (sym is.question)
       (record {
         place = place;
         sessions = r.0;
-        kept = kept_of_lists b (names_at a.program s.places.now) (λ x. messages x a.program (state_journal s)) ∙ r.1 ∙ sym (kept_of_lists b (names_at a.program s.places.now) (λ x. messages x a.program (state_journal t)));
+        kept = kept_of_lists b (names_at a.program s.places.items) (λ y. messages y a.program (state_journal s)) ∙ r.1 ∙ sym (kept_of_lists b (names_at a.program s.places.items) (λ y. messages y a.program (state_journal t)));
       }))
 
 -- ---- the first state
 
-module _ {A K : Type 0} (Keeps : K → List Tree → Type 0) (b : Bool) (p : Program) (before places : List ℕ) (s : ProgramState A K) (program : program_of s.program.now ≡ p) (at : s.places.now ≡ places)
-    (follows : Follows (HasRecorded Keeps) p 65536 before s.run) where
+module _ {A K : Type 0} (Keeps : K → List Tree → Type 0) (b : Bool) (x : code.Program A) (before places : List ℕ) (s : ProgramState A K) (at : s.places.items ≡ places)
+    (follows : Follows (HasRecorded Keeps) (program_of x) 65536 before s.run) where
+  p : Program
+  p = program_of x
+
   whole : take 65536 (moves p before) ≡ moves p before
   whole = let spent : length (moves p before) + (run_state_of p before).room ≡ 65536 = room_spent p.functions (start p) before in take_all 65536 (moves p before) (omega arith)
 
   pub first_journal : state_journal s ≡ moves p before
   first_journal = follows.journaled ∙ whole
 
-  pub first_is : IsStateFor Keeps b s (query_of b p before places)
+  pub first_is : IsStateFor Keeps b x s (query_of b p before places)
   first_is = record {
-    program = program;
+    program = refl;
     run = subst (λ xs. IsRun (HasRecorded Keeps) p JOURNAL xs s.run) (sym follows.journaled) follows;
     question = refl;
     sessions = ap (names_at p) (sym at);

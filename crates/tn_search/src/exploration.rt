@@ -4,7 +4,7 @@ ghost use Rattle.tn_program.specs.Views.{program_of};
 ghost use Rattle.tn_search.specs.States.{ExploresProgram, IsStateAfter, is_by_process};
 
 use crate::process_sink::ProcessSink;
-use crate::program_state::ProgramState;
+use crate::program_state::{ProgramState, copy_places};
 use crate::search_sink::SearchSink;
 use crate::total_sink::TotalSink;
 use std::alloc::{AllocError, Allocator};
@@ -23,39 +23,35 @@ pub enum ListingOrder {
 }
 
 /// The state after some picks, of the sessions at some places.
-fn state_after<'p, A: Allocator + Copy, K: SearchSink<A> + Drop>(
+fn state_after<A: Allocator + Copy, K: SearchSink<A> + Drop>(
     alloc: A,
-    program: &'p Program<A>,
+    program: &Program<A>,
     before: &[u32],
-    places: &'p [usize],
-) -> Result<ProgramState<'p, A, K>, AllocError>
-    ensures { IfOk result (IsStateAfter K.keeps K.is_by_process (program_of program.now) before.now places.now) }
+    places: &[usize],
+) -> Result<ProgramState<A, K>, AllocError>
+    ensures { IfOk result (IsStateAfter K.keeps K.is_by_process program.now before.now places.now) }
 {
     let recorder = Recorder::<A, K>::new(alloc, program)?;
     let mut run = Run::new(alloc, program, recorder, JOURNAL)?;
     let mut given = Vec::new(alloc);
     run.take_all(program, before, &mut given)?;
-    Ok(ProgramState {
-        alloc,
-        program,
-        places,
-        run,
-    })
+    let places = copy_places(alloc, places)?;
+    Ok(ProgramState { alloc, places, run })
 }
 
 /// The search through all schedules that begin with some picks, by what a state keeps of messages.
-fn explore_by<'p, A: Allocator + Copy, K: SearchSink<A> + Drop>(
+fn explore_by<A: Allocator + Copy, K: SearchSink<A> + Drop>(
     alloc: A,
-    program: &'p Program<A>,
+    program: &Program<A>,
     before: &[u32],
-    places: &'p [usize],
+    places: &[usize],
     max_states: usize,
 ) -> Result<Exploration<A, KeptListings<A>>, AllocError>
     ensures { let p = program_of program.now in
         IfOk result (ExploresProgram K.is_by_process p before.now places.now max_states) }
 {
     let first = state_after::<A, K>(alloc, program, before, places)?;
-    explore(alloc, first, max_states)
+    explore(alloc, program, first, max_states)
 }
 
 /// The search through all schedules of a program that begin with some picks, until so many states were met. The

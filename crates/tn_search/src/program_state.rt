@@ -12,13 +12,25 @@ use tn_node::{Moved, Node};
 use tn_program::Program;
 use tn_trace::{JOURNAL, PickOutcome, Recorder, Run, pass_picks};
 
-/// A state of a program's runs: the run that led there, and the places of the sessions that are asked.
+/// A state of a program's runs: the run that led there, and the places of the sessions that are asked. The program is
+/// the context of its search.
 #[derive(Drop)]
-pub struct ProgramState<'a, A: Allocator, K> {
+pub struct ProgramState<A: Allocator, K> {
     pub(crate) alloc: A,
-    pub(crate) program: &'a Program<A>,
-    pub(crate) places: &'a [usize],
+    pub(crate) places: Vec<usize, A>,
     pub(crate) run: Run<A, Recorder<A, K>>,
+}
+
+/// The same places.
+pub(crate) fn copy_places<A: Allocator>(
+    alloc: A,
+    places: &[usize],
+) -> Result<Vec<usize, A>, AllocError>
+    ensures { IfOk result (λ v. v.items ≡ places.now) }
+{
+    let mut copy = Vec::new(alloc);
+    copy.extend_from_slice(places)?;
+    Ok(copy)
 }
 
 /// Whether a node moves by this pick. One that doesn't is as it was.
@@ -64,11 +76,13 @@ fn moving_picks<A: Allocator + Copy>(
     Ok(moving)
 }
 
-impl<A: Allocator + Copy, K: SearchSink<A> + Drop> SearchState<A> for ProgramState<'_, A, K> {
+impl<A: Allocator + Copy, K: SearchSink<A> + Drop> SearchState<A> for ProgramState<A, K> {
     ghost use Rattle.std.proofs.Common.{refl};
     ghost use Rattle.tn_messages.specs.MessageViews.{kept_seen};
     ghost use Rattle.tn_messages.proofs.Equal.{by_kept};
     ghost use Rattle.tn_search.specs.States.{IsStateFor, state_journal};
+
+    type Context = Program<A>;
 
     type Observation = KeptListings<A>;
 
@@ -89,18 +103,17 @@ impl<A: Allocator + Copy, K: SearchSink<A> + Drop> SearchState<A> for ProgramSta
 
     fn share(&self) -> Result<Self, AllocError> {
         let run = self.run.share()?;
+        let places = copy_places(self.alloc, &self.places)?;
         Ok(ProgramState {
             alloc: self.alloc,
-            program: self.program,
-            places: self.places,
+            places,
             run,
         })
     }
 
-    fn advance(&mut self, pick: u32) -> Result<bool, AllocError> {
-        let program = self.program;
+    fn advance(&mut self, context: &Program<A>, pick: u32) -> Result<bool, AllocError> {
         let mut given = Vec::new(self.alloc);
-        match self.run.step(program, pick, &mut given)? {
+        match self.run.step(context, pick, &mut given)? {
             PickOutcome::Moved => Ok(true),
             PickOutcome::Idle => Ok(false),
             PickOutcome::Full => Ok(false),
@@ -119,18 +132,18 @@ impl<A: Allocator + Copy, K: SearchSink<A> + Drop> SearchState<A> for ProgramSta
         if !same_living(one.living, two.living) {
             return false;
         }
-        same_slots(self.places, &one.slots, &two.slots)
+        same_slots(&self.places, &one.slots, &two.slots)
     }
 
     fn fingerprint(&self) -> usize {
         let mut hasher = FoldHasher::default();
         hasher.write_u64(self.run.node().fingerprint());
-        add_slots(self.places, &self.run.observer().slots, &mut hasher);
+        add_slots(&self.places, &self.run.observer().slots, &mut hasher);
         hasher.finish() as usize
     }
 
     fn observe(&self, alloc: A) -> Result<KeptListings<A>, AllocError> {
-        let sinks = share_kept(alloc, self.places, &self.run.observer().slots)?;
+        let sinks = share_kept(alloc, &self.places, &self.run.observer().slots)?;
         K::gather(alloc, &sinks)
     }
 

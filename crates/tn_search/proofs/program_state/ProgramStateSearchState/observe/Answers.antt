@@ -15,7 +15,7 @@ returns g c =
     let b = g.K.SearchSink.is_by_process in
     let s = c.args.self.now in
     let sinks = c.deref-2.result.now in
-    IfOk-weaker c.gather.result (λ l. (mss : List (List Tree)) → AreSinksOf Keeps mss sinks → kept_seen l ≡ kept_lists b mss) (λ l. (a : Query) → IsStateFor Keeps b s a → kept_seen l ≡ kept_for a (state_journal s))
-    (λ l gathers a is. observed Keeps b s a is sinks (kept_seen l) (subst (λ xs. AreKeptAt Keeps s.places.now xs sinks) (c.deref.ensures.value ∙ ap (λ (o : Recorder g.row.A.Denot g.row.K.Denot). o.slots.items) c.observer.ensures)
-    (subst (AreKeptAt Keeps s.places.now c.deref.result.now) (sym c.deref-2.ensures.value) c.in_ok-sinks.ensures)) gathers)
+    IfOk-weaker c.gather.result (λ l. (mss : List (List Tree)) → AreSinksOf Keeps mss sinks → kept_seen l ≡ kept_lists b mss) _
+    (λ l gathers x a is. observed Keeps b x s a is sinks (kept_seen l) (subst (λ xs. AreKeptAt Keeps s.places.items xs sinks) (c.deref.ensures.value ∙ ap (λ (o : Recorder g.row.A.Denot g.row.K.Denot). o.slots.items) c.observer.ensures)
+    (subst (AreKeptAt Keeps s.places.items c.deref.result.now) (sym c.deref-2.ensures.value) c.in_ok-sinks.ensures)) gathers)
     c.gather.ensures
