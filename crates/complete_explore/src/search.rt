@@ -13,15 +13,18 @@ type SearchResult<A, S> = Result<Exploration<A, <S as SearchState<A>>::Observati
 /// `tn_explore::explore` has one answer where all states are tried: the same is kept, with journals that are as long.
 pub fn explore<A: Allocator + Copy, S: SearchState<A>>(
     alloc: A,
+    context: &S::Context,
+    other_context: &S::Context,
     one: S,
     other: S,
     max_states: usize,
 ) -> (SearchResult<A, S>, SearchResult<A, S>)
     ensures { IfOk result.0 (λ e. IfOk result.1 (λ f. (a : Query) →
-        S.is_of one a → S.is_of other a → S.journal one ≡ moves a.program a.before →
-        S.journal other ≡ moves a.program a.before → ExploreAlike S.kept_seen e f)) }
+        S.is_of context.now one a → S.is_of other_context.now other a →
+        S.journal one ≡ moves a.program a.before → S.journal other ≡ moves a.program a.before →
+        ExploreAlike S.kept_seen e f)) }
 {
-    let first = tn_explore::explore(alloc, one, max_states);
-    let second = tn_explore::explore(alloc, other, max_states);
+    let first = tn_explore::explore(alloc, context, one, max_states);
+    let second = tn_explore::explore(alloc, other_context, other, max_states);
     (first, second)
 }

@@ -1,5 +1,5 @@
 -- Picks that are tried one after the other.
-use Rattle.std.proofs.Common.{◌≡◌, ◌<◌, ◌≤◌, ◌+◌, ℕ, List, [], ◌∷◌, ◌++◌, length, map, take, get_or, Bool, true, false, Some, refl, sym, ap, ◌∙◌, subst, append-nil, append_assoc, length-append, if◌then◌else◌}
+use Rattle.std.proofs.Common.{◌≡◌, ◌<◌, ◌≤◌, ◌+◌, ℕ, List, [], ◌∷◌, ◌++◌, length, map, take, get_or, Bool, true, false, refl, sym, ap, ◌∙◌, subst, append-nil, append_assoc, length-append, if◌then◌else◌}
 use Rattle.std.proofs.lemmas.List.{take_all}
 use Rattle.std.proofs.lemmas.List.Elements.{All-nil, All-more, All-weaker}
 use Rattle.def_script.specs.Program.{Program}
@@ -50,7 +50,7 @@ module _ {S : Type 0} (Journal : S → List ℕ) (IsOf : S → Query → Type 0)
   pub has_still : (picks : List ℕ) (xs more ys : List S) → ys ≡ xs ++ more → HasStateFor a (map Journal xs) picks → HasStateFor a (map Journal ys) picks
   has_still picks xs more ys e h = subst (λ zs. HasStateFor a zs picks) (sym (ap (map Journal) e ∙ map_both xs more)) (one_before (AlikeFor a picks) (map Journal xs) (map Journal more) h)
 
-  pub tries_moved : (picks : List ℕ) (i : ℕ) (old new newer : List S) (moved : Bool) (t : S) → i < length picks → StepGives Journal IsOf a s (get_or picks i 0) (Some t)
+  pub tries_moved : (picks : List ℕ) (i : ℕ) (old new newer : List S) (moved : Bool) (t : S) → i < length picks → StepGives Journal IsOf a (Journal s) (get_or picks i 0) t true
       → AddsState Journal IsOf a depth t new newer → Tries Journal IsOf a depth s (take i picks) old new moved → Tries Journal IsOf a depth s (take (i + 1) picks) old newer true
   tries_moved picks i old new newer moved u below gives adds t = record {
     more = t.more ++ adds.more;
@@ -67,7 +67,7 @@ module _ {S : Type 0} (Journal : S → List ℕ) (IsOf : S → Query → Type 0)
   tries_end picks i old new moved all t = subst (λ ps. Tries Journal IsOf a depth s ps old new moved) (take_all i picks all) t
 
 -- the state after a step is where its journal leads
-pub stepped_at : {S : Type 0} (Journal : S → List ℕ) (IsOf : S → Query → Type 0) (a : Query) (depth : ℕ) (s : S) (pick : ℕ) (t : S) → IsAt Journal IsOf a depth s → StepGives Journal IsOf a s pick (Some t) → IsAt Journal IsOf a (depth + 1) t
+pub stepped_at : {S : Type 0} (Journal : S → List ℕ) (IsOf : S → Query → Type 0) (a : Query) (depth : ℕ) (s : S) (pick : ℕ) (t : S) → IsAt Journal IsOf a depth s → StepGives Journal IsOf a (Journal s) pick t true → IsAt Journal IsOf a (depth + 1) t
 stepped_at Journal IsOf a depth s pick t here gives =
     let counted : length (Journal t) ≡ length (Journal s) + 1 = ap length gives.1 ∙ length-append (Journal s) (pick ∷ []) in
     record {

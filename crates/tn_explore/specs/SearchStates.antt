@@ -1,19 +1,22 @@
 -- What is promised of a state of the search: a node with its sessions and what is kept of their messages, after a journal.
 -- Depends on what is asked.
-use Rattle.std.specs.Prelude.{◌≡◌, ℕ, Bool, true, List, [], ◌∷◌, ◌++◌, IsTrue, Option, Some, None, Result, IfOk}
+use Rattle.std.specs.Prelude.{◌≡◌, ℕ, Bool, true, false, List, [], ◌∷◌, ◌++◌, IsTrue}
 use Rattle.std.specs.List.{Contains}
-use Rattle.std.specs.declared.alloc.AllocError.{AllocError}
 use Rattle.def_run.specs.Laws.{IsIdleAfter}
 use Rattle.def_explore.specs.Rests.{IsMovingAfter, KeptMessages}
 use Rattle.tn_explore.specs.Query.{Query, AlikeFor, kept_for}
 
--- a step leads to the state of one more pick, or the pick is idle
-abbrev pub StepGives : {S : Type 0} → (S → List ℕ) → (S → Query → Type 0) → Query → S → ℕ → Option S → Type 0
-StepGives Journal IsOf a s pick None = IsIdleAfter a.program (Journal s) pick
-StepGives Journal IsOf a s pick (Some t) = IsMovingAfter a.program (Journal s) pick × (Journal t ≡ Journal s ++ pick ∷ []) × IsOf t a
+-- the copy is the same state
+abbrev pub IsCopy : {S : Type 0} → (S → List ℕ) → (S → Query → Type 0) → S → S → Type 0
+IsCopy Journal IsOf s t = (a : Query) → IsOf s a → (Journal t ≡ Journal s) × IsOf t a
 
-abbrev pub StepsTo : {S : Type 0} → (S → List ℕ) → (S → Query → Type 0) → S → ℕ → Result (Option S) AllocError → Type 0
-StepsTo Journal IsOf s pick result = IfOk result (λ o. (a : Query) → IsOf s a → StepGives Journal IsOf a s pick o)
+-- the state is that of one more pick after this journal, or the pick is idle
+abbrev pub StepGives : {S : Type 0} → (S → List ℕ) → (S → Query → Type 0) → Query → List ℕ → ℕ → S → Bool → Type 0
+StepGives Journal IsOf a journal pick t false = IsIdleAfter a.program journal pick
+StepGives Journal IsOf a journal pick t true = IsMovingAfter a.program journal pick × (Journal t ≡ journal ++ pick ∷ []) × IsOf t a
+
+abbrev pub AdvancesState : {S : Type 0} → (S → List ℕ) → (S → Query → Type 0) → ℕ → S → S → Bool → Type 0
+AdvancesState Journal IsOf pick old new moved = (a : Query) → IsOf old a → StepGives Journal IsOf a (Journal old) pick new moved
 
 -- every other pick is idle
 abbrev pub HasAllMoves : {S : Type 0} → (S → List ℕ) → (S → Query → Type 0) → S → List ℕ → Type 0

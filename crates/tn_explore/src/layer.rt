@@ -35,7 +35,7 @@ impl<A: Allocator + Copy, S: SearchState<A>> Layer<A, S> {
 
     /// Whether the layer has the state.
     fn has(&self, state: &S, list: usize) -> bool
-        ensures { HasSame S.journal S.is_of self.now.states.items state.now result }
+        ensures { (x : S.Context) → HasSame S.journal (S.is_of x) self.now.states.items state.now result }
     {
         let mut place = match self.heads.get(list) {
             Some(head) => *head,
@@ -80,9 +80,9 @@ impl<A: Allocator + Copy, S: SearchState<A>> Layer<A, S> {
 
     /// Adds the state, where the layer has none that is the same.
     pub fn add(&mut self, state: S) -> Result<(), AllocError>
-        ensures { IfOk result (λ _. (a : Query) (depth : ℕ) →
-            AreAt S.journal S.is_of a depth self.old.states.items → IsAt S.journal S.is_of a depth state →
-            AddsState S.journal S.is_of a depth state self.old.states.items self.new.states.items) }
+        ensures { IfOk result (λ _. (x : S.Context) (a : Query) (depth : ℕ) →
+            AreAt S.journal (S.is_of x) a depth self.old.states.items → IsAt S.journal (S.is_of x) a depth state →
+            AddsState S.journal (S.is_of x) a depth state self.old.states.items self.new.states.items) }
     {
         let list = state.fingerprint() % HEADS;
         if self.has(&state, list) {

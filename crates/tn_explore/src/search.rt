@@ -20,22 +20,23 @@ pub type Answers<A, M> = IndexMap<M, Vec<u32, A>, BuildHasherDefault<FoldHasher>
 
 /// Tries the picks after a state: whether one moved.
 fn try_picks<A: Allocator + Copy, S: SearchState<A>>(
+    context: &S::Context,
     state: &S,
     picks: &[u32],
     next: &mut Layer<A, S>,
 ) -> Result<bool, AllocError>
     ensures { IfOk result (λ moved. (a : Query) (depth : ℕ) →
-        AreAt S.journal S.is_of a (depth + 1) next.old.states.items → IsAt S.journal S.is_of a depth state.now →
-        Tries S.journal S.is_of a (depth + 1) state.now picks.now next.old.states.items next.new.states.items moved) }
+        AreAt S.journal (S.is_of context.now) a (depth + 1) next.old.states.items →
+        IsAt S.journal (S.is_of context.now) a depth state.now →
+        Tries S.journal (S.is_of context.now) a (depth + 1) state.now picks.now
+        next.old.states.items next.new.states.items moved) }
 {
     let mut moved = false;
     for pick in picks {
-        match state.step(*pick)? {
-            None => {}
-            Some(after) => {
-                next.add(after)?;
-                moved = true;
-            }
+        let mut after = state.share()?;
+        if after.advance(context, *pick)? {
+            next.add(after)?;
+            moved = true;
         }
     }
     Ok(moved)
@@ -47,7 +48,7 @@ fn answer<A: Allocator + Copy, S: SearchState<A>>(
     state: &S,
     answers: &mut Answers<A, S::Observation>,
 ) -> Result<(), AllocError>
-    ensures { IfOk result (λ _. AnswersRest S.journal S.is_of state.now
+    ensures { IfOk result (λ _. (x : S.Context) → AnswersRest S.journal (S.is_of x) state.now
         (answer_entries S.kept_seen answers.old.entries) (answer_entries S.kept_seen answers.new.entries)) }
 {
     let observation = state.observe(alloc)?;
@@ -62,17 +63,19 @@ fn answer<A: Allocator + Copy, S: SearchState<A>>(
 /// Tries all picks after a state. Where none moves, it is answered.
 fn try_state<A: Allocator + Copy, S: SearchState<A>>(
     alloc: A,
+    context: &S::Context,
     state: &S,
     next: &mut Layer<A, S>,
     answers: &mut Answers<A, S::Observation>,
 ) -> Result<(), AllocError>
     ensures { IfOk result (λ _. (a : Query) (depth : ℕ) →
-        AreAt S.journal S.is_of a (depth + 1) next.old.states.items → IsAt S.journal S.is_of a depth state.now →
-        TriesState S.journal S.is_of a (depth + 1) state.now next.old.states.items next.new.states.items
+        AreAt S.journal (S.is_of context.now) a (depth + 1) next.old.states.items →
+        IsAt S.journal (S.is_of context.now) a depth state.now →
+        TriesState S.journal (S.is_of context.now) a (depth + 1) state.now next.old.states.items next.new.states.items
         (answer_entries S.kept_seen answers.old.entries) (answer_entries S.kept_seen answers.new.entries)) }
 {
     let picks = state.picks(alloc)?;
-    let moved = try_picks(state, &picks, next)?;
+    let moved = try_picks(context, state, &picks, next)?;
     if moved {
         return Ok(());
     }
@@ -82,22 +85,23 @@ fn try_state<A: Allocator + Copy, S: SearchState<A>>(
 /// Tries each state of a layer, while the next has fewer than so many states: whether all were tried.
 fn try_layer<A: Allocator + Copy, S: SearchState<A>>(
     alloc: A,
+    context: &S::Context,
     states: &[S],
     next: &mut Layer<A, S>,
     answers: &mut Answers<A, S::Observation>,
     room: usize,
 ) -> Result<bool, AllocError>
     ensures { IfOk result (λ complete. (a : Query) (depth : ℕ) (tried : List (List ℕ)) →
-        next.old.states.items ≡ [] → AreAt S.journal S.is_of a depth states.now →
+        next.old.states.items ≡ [] → AreAt S.journal (S.is_of context.now) a depth states.now →
         HaveTried a depth (tried ++ map S.journal states.now) tried (answer_entries S.kept_seen answers.old.entries) →
-        TriesLayer S.journal S.is_of a depth tried states.now next.new.states.items
+        TriesLayer S.journal (S.is_of context.now) a depth tried states.now next.new.states.items
         (answer_entries S.kept_seen answers.new.entries) room complete) }
 {
     for state in states {
         if next.states.len() >= room {
             return Ok(false);
         }
-        try_state(alloc, state, next, answers)?;
+        try_state(alloc, context, state, next, answers)?;
     }
     Ok(true)
 }
@@ -116,11 +120,12 @@ pub struct Exploration<A: Allocator, M: Eq + Hash> {
 /// Tries all states from the first on, until so many were met. An error is refused memory.
 pub fn explore<A: Allocator + Copy, S: SearchState<A>>(
     alloc: A,
+    context: &S::Context,
     first: S,
     max_states: usize,
 ) -> Result<Exploration<A, S::Observation>, AllocError>
     ensures { IfOk result (λ e. (a : Query) →
-        S.is_of first a → S.journal first ≡ moves a.program a.before →
+        S.is_of context.now first a → S.journal first ≡ moves a.program a.before →
         Explores a (answer_entries S.kept_seen e.answers.entries) max_states e.states e.is_complete) }
 {
     let mut layer = Layer::new(alloc);
@@ -137,7 +142,7 @@ pub fn explore<A: Allocator + Copy, S: SearchState<A>>(
         }
         let mut next = Layer::new(alloc);
         let room = max_states.saturating_sub(states);
-        let is_complete = try_layer(alloc, &layer.states, &mut next, &mut answers, room)?;
+        let is_complete = try_layer(alloc, context, &layer.states, &mut next, &mut answers, room)?;
         let met = states.saturating_add(next.states.len());
         if !is_complete {
             return Ok(Exploration {

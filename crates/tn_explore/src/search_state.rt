@@ -7,7 +7,11 @@ pub trait SearchState<A: Allocator>: Sized + Drop {
     ghost use Rattle.std.specs.Prelude.{◌≡◌, ℕ, List, IfOk};
     ghost use Rattle.def_explore.specs.Rests.{KeptMessages};
     ghost use Rattle.tn_explore.specs.Query.{Query};
-    ghost use Rattle.tn_explore.specs.SearchStates.{StepsTo, HasAllMoves, AreSame, KeepsFor, EqualsByKept};
+    ghost use Rattle.tn_explore.specs.SearchStates.{IsCopy, AdvancesState, HasAllMoves, AreSame};
+    ghost use Rattle.tn_explore.specs.SearchStates.{KeepsFor, EqualsByKept};
+
+    /// What all states of a search have in common, as the program of a run.
+    type Context;
 
     /// What is kept of its messages.
     type Observation: Eq + Hash + Drop;
@@ -16,34 +20,38 @@ pub trait SearchState<A: Allocator>: Sized + Drop {
     ghost journal: { Self → List ℕ };
 
     /// It is where its journal leads in this program, with what is kept for this question.
-    ghost is_of: { Self → Query → Type 0 };
+    ghost is_of: { Self.Context → Self → Query → Type 0 };
 
     /// What the definitions keep.
     ghost kept_seen: { Self.Observation → KeptMessages };
 
     /// The picks that may move.
     fn picks(&self, alloc: A) -> Result<Vec<u32, A>, AllocError>
-        ensures { IfOk result (λ v. HasAllMoves journal is_of self.now v.items) };
+        ensures { IfOk result (λ v. (x : Self.Context) → HasAllMoves journal (is_of x) self.now v.items) };
 
-    /// The state after one more pick; None where it is idle.
-    fn step(&self, pick: u32) -> Result<Option<Self>, AllocError>
-        ensures { StepsTo journal is_of self.now pick result };
+    /// The same state, which shares what this one has.
+    fn share(&self) -> Result<Self, AllocError>
+        ensures { IfOk result (λ s. (x : Self.Context) → IsCopy journal (is_of x) self.now s) };
+
+    /// Takes one more pick: whether it moved.
+    fn advance(&mut self, context: &Self::Context, pick: u32) -> Result<bool, AllocError>
+        ensures { IfOk result (AdvancesState journal (is_of context.now) pick self.old self.new) };
 
     /// Whether both are the same state. Where it is false they may be the same too.
     fn same(&self, other: &Self) -> bool
-        ensures { AreSame journal is_of self.now other.now result };
+        ensures { (x : Self.Context) → AreSame journal (is_of x) self.now other.now result };
 
     /// A number that is the same for the same states, and mostly another for others.
     fn fingerprint(&self) -> usize;
 
     /// What is kept of its messages.
     fn observe(&self, alloc: A) -> Result<Self::Observation, AllocError>
-        ensures { IfOk result (λ m. KeepsFor journal is_of kept_seen self.now m) };
+        ensures { IfOk result (λ m. (x : Self.Context) → KeepsFor journal (is_of x) kept_seen self.now m) };
 
     /// The picks of its journal.
     fn copy_journal(&self, alloc: A) -> Result<Vec<u32, A>, AllocError>
         ensures { IfOk result (λ v. v.items ≡ journal self.now) };
 
     /// Two of what is kept are equal where the same is kept, and nowhere else.
-    ghost equals_by_kept: { EqualsByKept Self.Observation.eq kept_seen };
+    ghost equals: { EqualsByKept Self.Observation.eq kept_seen };
 }

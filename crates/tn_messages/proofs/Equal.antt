@@ -57,16 +57,15 @@ module _ {A : Type 0} where
   module _ (test : KeptListings A → KeptListings A → Bool)
       (total : (v w : Vec (Vec (SharedMessage A) A) A) → test (Total v) (Total w) ≡ pointwise (λ x y. pointwise same_message x.items y.items) v.items w.items)
       (process : (v w : Vec (Vec (Vec (SharedMessage A) A) A) A) → test (ByProcess v) (ByProcess w) ≡ pointwise (λ x y. pointwise (λ a b. pointwise same_message a.items b.items) x.items y.items) v.items w.items)
-      (first : (v : Vec (Vec (SharedMessage A) A) A) (w : Vec (Vec (Vec (SharedMessage A) A) A) A) → test (Total v) (ByProcess w) ≡ false)
-      (second : (v : Vec (Vec (Vec (SharedMessage A) A) A) A) (w : Vec (Vec (SharedMessage A) A) A) → test (ByProcess v) (Total w) ≡ false) where
+      (neither : (v : Vec (Vec (SharedMessage A) A) A) (w : Vec (Vec (Vec (SharedMessage A) A) A) A) → (test (Total v) (ByProcess w) ≡ false) × (test (ByProcess w) (Total v) ≡ false)) where
     no_way : (b : Bool) → b ≡ false → b ≡ true → ⊥
     no_way b e f = cc
 
     pub says_same : (m n : KeptListings A) → test m n ≡ true → kept_seen m ≡ kept_seen n
     says_same (Total v) (Total w) h = ap kept_messages (each_same (λ (x y : Vec (SharedMessage A) A). pointwise same_message x.items y.items) trees_seen trees_test v.items w.items (sym (total v w) ∙ h))
     says_same (ByProcess v) (ByProcess w) h = ap kept_by_process (each_same (λ (x y : Vec (Vec (SharedMessage A) A) A). pointwise (λ a b. pointwise same_message a.items b.items) x.items y.items) lists_seen processes_test v.items w.items (sym (process v w) ∙ h))
-    says_same (Total v) (ByProcess w) h = absurd (no_way (test (Total v) (ByProcess w)) (first v w) h)
-    says_same (ByProcess v) (Total w) h = absurd (no_way (test (ByProcess v) (Total w)) (second v w) h)
+    says_same (Total v) (ByProcess w) h = absurd (no_way (test (Total v) (ByProcess w)) (neither v w).0 h)
+    says_same (ByProcess v) (Total w) h = absurd (no_way (test (ByProcess v) (Total w)) (neither w v).1 h)
 
     pub same_says : (m n : KeptListings A) → kept_seen m ≡ kept_seen n → test m n ≡ true
     same_says (Total v) (Total w) h =

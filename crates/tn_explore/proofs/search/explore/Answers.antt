@@ -10,11 +10,11 @@ use Rattle.tn_explore.proofs.search.explore.Goals as goal
 pub loop-init : goal.loop-init
 loop-init g c = λ a is_of is.
     let J = g.S.SearchState.journal in
-    let I = g.S.SearchState.is_of in
+    let I = (g.S.SearchState.is_of c.args.context.now) in
     let first = c.args.first in
     let here = first_at J I a first is_of is (moves_again a.program.functions (start a.program) a.before) in
     let none = subst (AreAt J I a (length (J first))) (sym c.new-layer.ensures) tt in
-    let adds = c.in_ok-add.ensures a (length (J first)) none here in
+    let adds = c.in_ok-add.ensures c.args.context.now a (length (J first)) none here in
     let counted : c.len-states.result ≡ length c.add.new.self.states.items = omega (arith, c.add.new.self.states.ok.0, c.len-states.ensures) in
     subst (λ es. Before J I a 0 c.add.new.self.states.items (answer_entries g.S.SearchState.kept_seen es) c.len-states.result) (sym c.new-answers.ensures.empty) (before_all J I a first c.add.new.self.states.items c.len-states.result is adds.at adds.has counted (omega (arith, c.add.new.self.states.ok.0, c.len-states.ensures)))
 
@@ -22,15 +22,15 @@ pub returns-then-is_empty : goal.returns-then-is_empty
 returns-then-is_empty g c = λ a is_of is.
     let counted : length c.loop.layer.states.items ≡ vec_len c.loop.layer.states = omega (arith, c.loop.layer.states.ok.0) in
     let e : c.loop.layer.states.items ≡ [] = empty_is c.loop.layer.states.items (vec_len c.loop.layer.states) counted (eqb-true (vec_len c.loop.layer.states) 0 (sym c.is_empty.ensures ∙ c.if-is_empty.true)) in
-    explored g.S.SearchState.journal g.S.SearchState.is_of a c.loop.counter c.loop.layer.states.items (answer_entries g.S.SearchState.kept_seen c.loop.answers.entries) c.args.max_states c.loop.states e (c.loop.invariant a is_of is)
+    explored g.S.SearchState.journal (g.S.SearchState.is_of c.args.context.now) a c.loop.counter c.loop.layer.states.items (answer_entries g.S.SearchState.kept_seen c.loop.answers.entries) c.args.max_states c.loop.states e (c.loop.invariant a is_of is)
 
 pub returns : goal.returns
-returns g c = λ a is_of is. absurd (no_more_layers g.S.SearchState.journal g.S.SearchState.is_of a c.loop.counter c.loop.layer.states.items (answer_entries g.S.SearchState.kept_seen c.loop.answers.entries) c.loop.states c.loop-test.false (c.loop.invariant a is_of is))
+returns g c = λ a is_of is. absurd (no_more_layers g.S.SearchState.journal (g.S.SearchState.is_of c.args.context.now) a c.loop.counter c.loop.layer.states.items (answer_entries g.S.SearchState.kept_seen c.loop.answers.entries) c.loop.states c.loop-test.false (c.loop.invariant a is_of is))
 
 pub returns-then-not-is_complete : goal.returns-then-not-is_complete
 returns-then-not-is_complete g c = λ a is_of is.
     let J = g.S.SearchState.journal in
-    let I = g.S.SearchState.is_of in
+    let I = (g.S.SearchState.is_of c.args.context.now) in
     let b = c.loop.invariant a is_of is in
     let layer = c.loop.layer.states.items in
     let new = c.try_layer.new.next.states.items in
@@ -45,7 +45,7 @@ returns-then-not-is_complete g c = λ a is_of is.
 pub loop-preserved : goal.loop-preserved
 loop-preserved g c = λ a is_of is.
     let J = g.S.SearchState.journal in
-    let I = g.S.SearchState.is_of in
+    let I = (g.S.SearchState.is_of c.args.context.now) in
     let b = c.loop.invariant a is_of is in
     let layer = c.loop.layer.states.items in
     let new = c.try_layer.new.next.states.items in

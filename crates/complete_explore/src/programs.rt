@@ -1,0 +1,32 @@
+// The search through all schedules of a program.
+ghost use Rattle.std.specs.Prelude.{◌≡◌, IfOk};
+ghost use Rattle.tn_messages.specs.MessageViews.{kept_seen};
+ghost use Rattle.tn_program.specs.Views.{program_of};
+ghost use Rattle.complete_explore.specs.Explorations.{ExploreAlike};
+
+use std::alloc::{AllocError, Allocator};
+use tn_explore::Exploration;
+use tn_messages::KeptListings;
+use tn_program::Program;
+use tn_search::ListingOrder;
+
+/// What a search answers, or refused memory.
+type ProgramResult<A> = Result<Exploration<A, KeptListings<A>>, AllocError>;
+
+/// `tn_search::explore_program` has one answer where all states are tried: the same is kept, with journals that are as
+/// long.
+pub fn explore_program<A: Allocator + Copy>(
+    alloc: A,
+    programs: (&Program<A>, &Program<A>),
+    before: &[u32],
+    order: ListingOrder,
+    places: &[usize],
+    max_states: usize,
+) -> (ProgramResult<A>, ProgramResult<A>)
+    requires { program_of programs.0.now ≡ program_of programs.1.now }
+    ensures { IfOk result.0 (λ e. IfOk result.1 (ExploreAlike kept_seen e)) }
+{
+    let first = tn_search::explore_program(alloc, programs.0, before, order, places, max_states);
+    let second = tn_search::explore_program(alloc, programs.1, before, order, places, max_states);
+    (first, second)
+}

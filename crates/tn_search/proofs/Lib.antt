@@ -1,0 +1,6 @@
+pub mod RunStates
+pub mod Sessions
+pub mod Places
+pub mod Probes
+pub mod Steps
+pub mod Gathers

@@ -1,0 +1,13 @@
+use Rattle.std.proofs.lemmas.Result.{IfOk-weaker}
+use Rattle.tn_program.specs.Views.{program_of}
+use Rattle.tn_search.specs.States.{ExploresProgram, query_of}
+use Rattle.tn_search.proofs.exploration.explore_by.Goals as goal
+
+pub returns : goal.returns
+returns g c =
+    let b = g.K.SearchSink.is_by_process in
+    let p = program_of c.args.program.now in
+    let before = c.args.before.now in
+    let places = c.args.places.now in
+    IfOk-weaker c.explore.result _ (ExploresProgram b p before places c.args.max_states)
+    (λ e is. is (query_of b p before places) c.in_ok-first.ensures.0 c.in_ok-first.ensures.1) c.explore.ensures

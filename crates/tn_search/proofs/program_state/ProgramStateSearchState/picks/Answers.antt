@@ -1,0 +1,24 @@
+use Rattle.std.proofs.Common.{◌≡◌, ◌∙◌, ℕ, length, ap, arith}
+use Rattle.std.proofs.lemmas.Result.{IfOk-weaker}
+use Rattle.std.specs.List.{Contains}
+use Rattle.def_explore.specs.Rests.{IsMovingAfter}
+use Rattle.tn_explore.specs.Query.{Query}
+use Rattle.tn_search.specs.Probes.{HasMovesAmong}
+use Rattle.tn_search.specs.States.{IsStateFor, state_journal}
+use Rattle.tn_search.proofs.Steps.{all_moves, no_moves}
+use Rattle.tn_search.proofs.program_state.ProgramStateSearchState.picks.Goals as goal
+
+pub returns-then-made-ge-JOURNAL : goal.returns-then-made-ge-JOURNAL
+returns-then-made-ge-JOURNAL g c = λ x a is pick moving.
+    let long : length c.journal-made.result.now ≡ length c.args.self.now.run.journal.items = ap length c.journal-made.ensures in
+    no_moves g.K.MessageSink.keeps g.K.SearchSink.is_by_process x c.args.self.now a is c.new.result.items pick (omega (arith, c.if-made-ge-JOURNAL.true)) moving
+
+pub returns : goal.returns
+returns g c =
+    let Keeps = g.K.MessageSink.keeps in
+    let b = g.K.SearchSink.is_by_process in
+    let s = c.args.self.now in
+    let long : length c.journal-made.result.now ≡ length s.run.journal.items = ap length c.journal-made.ensures in
+    IfOk-weaker c.moving_picks.result (λ v. HasMovesAmong c.node.result.now c.deref.result.now v.items) _
+    (λ v among x a is pick moving. all_moves Keeps b x s a is c.node.result.now c.deref.result.now v.items pick c.node.ensures (c.deref.ensures.value ∙ c.in_ok-pass.ensures) (omega (arith, c.if-made-ge-JOURNAL.false)) among moving)
+    c.moving_picks.ensures

@@ -1,0 +1,4 @@
+pub mod Sinks
+pub mod Sessions
+pub mod Probes
+pub mod States

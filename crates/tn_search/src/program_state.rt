@@ -1,0 +1,157 @@
+// A state of a program's runs.
+ghost use Rattle.std.specs.Prelude.{◌≡◌, IfOk};
+ghost use Rattle.tn_search.specs.Probes.{HasMovesAmong, Probes, TriesPick};
+
+use crate::search_sink::SearchSink;
+use crate::session_states::{add_slots, same_living, same_slots, share_kept};
+use std::alloc::{AllocError, Allocator};
+use std::hash::{FoldHasher, Hasher};
+use tn_explore::SearchState;
+use tn_messages::KeptListings;
+use tn_node::{Moved, Node};
+use tn_program::Program;
+use tn_trace::{JOURNAL, PickOutcome, Recorder, Run, pass_picks};
+
+/// A state of a program's runs: the run that led there, and the places of the sessions that are asked. The program is
+/// the context of its search.
+#[derive(Drop)]
+pub struct ProgramState<A: Allocator, K> {
+    pub(crate) alloc: A,
+    pub(crate) places: Vec<usize, A>,
+    pub(crate) run: Run<A, Recorder<A, K>>,
+}
+
+/// The same places.
+pub(crate) fn copy_places<A: Allocator>(
+    alloc: A,
+    places: &[usize],
+) -> Result<Vec<usize, A>, AllocError>
+    ensures { IfOk result (λ v. v.items ≡ places.now) }
+{
+    let mut copy = Vec::new(alloc);
+    copy.extend_from_slice(places)?;
+    Ok(copy)
+}
+
+/// Whether a node moves by this pick. One that doesn't is as it was.
+fn moves_by<A: Allocator + Copy>(node: &mut Node<A>, pick: u32) -> Result<bool, AllocError>
+    ensures { IfOk result (Probes pick node.old node.new) }
+{
+    match node.step(pick)? {
+        Moved::Idle => Ok(false),
+        _ => Ok(true),
+    }
+}
+
+/// Tries a pick: where the node moves by it, it is one of those that move it, and what was tried is that node again.
+fn try_pick<A: Allocator + Copy>(
+    node: &Node<A>,
+    pick: u32,
+    probe: &mut Node<A>,
+    moving: &mut Vec<u32, A>,
+) -> Result<(), AllocError>
+    ensures { IfOk result (λ _. TriesPick pick node.now probe.old probe.new moving.old.items moving.new.items) }
+{
+    let moved = moves_by(probe, pick)?;
+    if moved {
+        *probe = node.share()?;
+        moving.push(pick)?;
+    }
+    Ok(())
+}
+
+/// Those of some picks by which a node moves.
+fn moving_picks<A: Allocator + Copy>(
+    alloc: A,
+    node: &Node<A>,
+    picks: &[u32],
+) -> Result<Vec<u32, A>, AllocError>
+    ensures { IfOk result (λ v. HasMovesAmong node.now picks.now v.items) }
+{
+    let mut probe = node.share()?;
+    let mut moving = Vec::new(alloc);
+    for pick in picks {
+        try_pick(node, *pick, &mut probe, &mut moving)?;
+    }
+    Ok(moving)
+}
+
+impl<A: Allocator + Copy, K: SearchSink<A> + Drop> SearchState<A> for ProgramState<A, K> {
+    ghost use Rattle.std.proofs.Common.{refl};
+    ghost use Rattle.tn_messages.specs.MessageViews.{kept_seen};
+    ghost use Rattle.tn_messages.proofs.Equal.{by_kept};
+    ghost use Rattle.tn_search.specs.States.{IsStateFor, state_journal};
+
+    type Context = Program<A>;
+
+    type Observation = KeptListings<A>;
+
+    ghost journal = { state_journal };
+
+    ghost is_of = { IsStateFor K.keeps K.is_by_process };
+
+    ghost kept_seen = { kept_seen };
+
+    fn picks(&self, alloc: A) -> Result<Vec<u32, A>, AllocError> {
+        let made = self.run.journal().len();
+        if made >= JOURNAL {
+            return Ok(Vec::new(alloc));
+        }
+        let pass = pass_picks(alloc)?;
+        moving_picks(alloc, self.run.node(), &pass)
+    }
+
+    fn share(&self) -> Result<Self, AllocError> {
+        let run = self.run.share()?;
+        let places = copy_places(self.alloc, &self.places)?;
+        Ok(ProgramState {
+            alloc: self.alloc,
+            places,
+            run,
+        })
+    }
+
+    fn advance(&mut self, context: &Program<A>, pick: u32) -> Result<bool, AllocError> {
+        let mut given = Vec::new(self.alloc);
+        match self.run.step(context, pick, &mut given)? {
+            PickOutcome::Moved => Ok(true),
+            PickOutcome::Idle => Ok(false),
+            PickOutcome::Full => Ok(false),
+        }
+    }
+
+    fn same(&self, other: &Self) -> bool {
+        if self.run.journal().len() != other.run.journal().len() {
+            return false;
+        }
+        if !self.run.node().same(other.run.node()) {
+            return false;
+        }
+        let one = self.run.observer();
+        let two = other.run.observer();
+        if !same_living(one.living, two.living) {
+            return false;
+        }
+        same_slots(&self.places, &one.slots, &two.slots)
+    }
+
+    fn fingerprint(&self) -> usize {
+        let mut hasher = FoldHasher::default();
+        hasher.write_u64(self.run.node().fingerprint());
+        add_slots(&self.places, &self.run.observer().slots, &mut hasher);
+        hasher.finish() as usize
+    }
+
+    fn observe(&self, alloc: A) -> Result<KeptListings<A>, AllocError> {
+        let sinks = share_kept(alloc, &self.places, &self.run.observer().slots)?;
+        K::gather(alloc, &sinks)
+    }
+
+    fn copy_journal(&self, alloc: A) -> Result<Vec<u32, A>, AllocError> {
+        let mut copy = Vec::new(alloc);
+        copy.extend_from_slice(self.run.journal())?;
+        Ok(copy)
+    }
+
+    ghost equals = { by_kept ⟦<KeptListings<A> as PartialEq>⟧.eq (λ v w. refl) (λ v w. refl) (λ v w. (refl, refl)) };
+}
