@@ -1,0 +1,130 @@
+-- What is written of a program whose schedules are explored.
+use Rattle.std.specs.Prelude.{◌≡◌, ◌&&◌, ℕ, suc, Bool, true, false, List, [], ◌∷◌, ◌++◌, map, Option, Some, None, is_some, if◌then◌else◌}
+use Rattle.std.specs.Option.{option_map}
+use Rattle.std.specs.Str.{bytes_eq}
+use Rattle.def_term.specs.Names.{Name}
+use Rattle.def_script.specs.Program.{Program}
+use Rattle.def_script.specs.Script.{Refusal, creations}
+use Rattle.def_run.specs.Round.{is_empty}
+use Rattle.def_explore.specs.Answers.{RestEntry}
+use Rattle.def_explore.specs.Output.{exploration_text}
+use Rattle.tn_explore.specs.Searches.{Explores}
+use Rattle.tn_moves.specs.Schedules.{schedule_seen, AreMovesOf, HasPicks}
+use Rattle.tn_run.specs.Answers.{IsRefusedRun, text_refusal}
+use Rattle.tn_run.specs.Jobs.{JobView, failed_end}
+use Rattle.tn_run.specs.declared.fault.RunFault.{RunFault}
+use Rattle.tn_search.specs.Sessions.{elements_at}
+use Rattle.tn_search.specs.States.{query_of, is_by_process}
+use Rattle.tn_exploration.specs.declared.request.ExploreRequest.{ExploreRequest}
+use Rattle.tn_exploration.specs.declared.request.ExploreOutcome.{ExploreOutcome}
+use Rattle.tn_exploration.specs.declared.request.ExploreOutcome.TheVariants.{Complete, Incomplete, NoSession, Refused}
+
+-- ---- the sessions that it is about
+
+-- the name that is asked for, where one is
+abbrev pub asked_name : ExploreRequest → Option Name
+asked_name q = option_map (λ s. s.now) q.session
+
+-- no name is asked for, or this one
+abbrev pub is_session_asked : Option Name → Name → Bool
+is_session_asked None name = true
+is_session_asked (Some asked) name = bytes_eq asked name
+
+-- the place, where the session there is asked for
+abbrev pub place_asked : Option Name → ℕ → Option (Name × Name) → List ℕ
+place_asked asked place None = []
+place_asked asked place (Some session) = if is_session_asked asked session.0 then place ∷ [] else []
+
+-- the places, from this one on, of the sessions that are asked for
+abbrev pub places_from : Option Name → ℕ → List (Name × Name) → List ℕ
+places_from asked place [] = []
+places_from asked place (session ∷ sessions) = place_asked asked place (Some session) ++ places_from asked (suc place) sessions
+
+-- those of a program
+abbrev pub places_of : Option Name → Program → List ℕ
+places_of asked p = places_from asked 0 (creations p.commands)
+
+-- ---- what is written
+
+-- the text is that of a search through all schedules that begin with a journal, about the sessions at these places, and says whether it tried all states
+pub record IsSearchText (q : ExploreRequest) (p : Program) (before places text : List ℕ) (whole : Bool) : Type 0 where
+  pub entries : List RestEntry
+  pub states : ℕ
+  pub search : Explores (query_of (is_by_process q.order) p before places) entries q.max_states states whole
+  pub written : text ≡ exploration_text (elements_at places (creations p.commands)) entries states whole
+
+-- the text of a search, and whether it tried all states
+pub record SearchText : Type 0 where
+  pub text : List ℕ
+  pub whole : Bool
+
+-- the texts of searches, each about the sessions at some places, one after another, and whether all of them tried all states
+abbrev pub AreSearchTexts : ExploreRequest → Program → List ℕ → List (List ℕ) → List ℕ → Bool → Type 0
+AreSearchTexts q p before [] text whole = (text ≡ []) × (whole ≡ true)
+AreSearchTexts q p before (places ∷ groups) text whole =
+    (a : SearchText) × (b : SearchText) × IsSearchText q p before places a.text a.whole × AreSearchTexts q p before groups b.text b.whole
+    × (text ≡ a.text ++ b.text) × (whole ≡ (a.whole && b.whole))
+
+-- each session is asked about by itself, as it depends on no other; where there is none, what moves is asked about alone
+abbrev pub groups_of : List ℕ → List (List ℕ)
+groups_of [] = [] ∷ []
+groups_of (place ∷ places) = map (λ n. n ∷ []) (place ∷ places)
+
+-- a session is asked for that the control list doesn't create
+abbrev pub lacks_session : ExploreRequest → List ℕ → Bool
+lacks_session q places = is_some q.session && is_empty places
+
+-- by each outcome
+abbrev pub IsExplorationFrom : ExploreRequest → Program → List ℕ → ExploreOutcome → List ℕ → Type 0
+IsExplorationFrom q p before Complete text =
+    let places = places_of (asked_name q) p in (lacks_session q places ≡ false) × AreSearchTexts q p before (groups_of places) text true
+IsExplorationFrom q p before Incomplete text =
+    let places = places_of (asked_name q) p in (lacks_session q places ≡ false) × AreSearchTexts q p before (groups_of places) text false
+IsExplorationFrom q p before NoSession text = (lacks_session q (places_of (asked_name q) p) ≡ true) × (text ≡ [])
+IsExplorationFrom q p before (Refused r) text = ⊥
+
+-- ---- a text that grows
+
+-- the text of a search comes after it
+abbrev pub AddsSearch : ExploreRequest → Program → (before places : List ℕ) → (old new : List ℕ) → Bool → Type 0
+AddsSearch q p before places old new whole = (text : List ℕ) × IsSearchText q p before places text whole × (new ≡ old ++ text)
+
+-- the texts of searches do
+abbrev pub AddsSearches : ExploreRequest → Program → List ℕ → List (List ℕ) → (old new : List ℕ) → Bool → Type 0
+AddsSearches q p before groups old new whole = (text : List ℕ) × AreSearchTexts q p before groups text whole × (new ≡ old ++ text)
+
+-- ---- by the moves that are asked for
+
+-- of the moves that are asked for
+pub record IsAskedExploration (q : ExploreRequest) (p : Program) (outcome : ExploreOutcome) (text : List ℕ) : Type 0 where
+  pub before : List ℕ
+  pub made : AreMovesOf (schedule_seen q.schedule) p before
+  pub exploration : IsExplorationFrom q p before outcome text
+
+-- what is written by each outcome: nothing where the moves are refused
+abbrev pub IsExploration : ExploreRequest → Program → ExploreOutcome → List ℕ → Type 0
+IsExploration q p (Refused r) text = IsRefusedRun (schedule_seen q.schedule) p r text
+IsExploration q p outcome text = IsAskedExploration q p outcome text
+
+-- the refusal of a text that an outcome is
+abbrev pub explore_refusal : ExploreOutcome → Option Refusal
+explore_refusal (Refused r) = text_refusal r
+explore_refusal outcome = None
+
+-- the outcome is an answer
+abbrev pub is_exploration : ExploreOutcome → Bool
+is_exploration Complete = true
+is_exploration Incomplete = true
+is_exploration NoSession = false
+is_exploration (Refused r) = false
+
+-- the exploration that is asked for
+abbrev pub explore_by : ExploreRequest → JobView ExploreOutcome RunFault
+explore_by q = record {
+  of_program = IsExploration q;
+  refusal_in = explore_refusal;
+  succeeds = is_exploration;
+  has = λ outcome. Unit {0};
+  reads = HasPicks (schedule_seen q.schedule);
+  end_of = failed_end;
+}

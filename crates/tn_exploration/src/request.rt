@@ -1,0 +1,30 @@
+// What is asked of all schedules of a program, and what was written.
+use tn_moves::Schedule;
+use tn_run::RunRefusal;
+use tn_search::ListingOrder;
+
+/// What is asked of all schedules that begin with some picks.
+#[derive(Clone, Copy)]
+pub struct ExploreRequest<'a> {
+    /// Which picks they begin with.
+    pub schedule: Schedule<'a>,
+    /// Which messages of a session are in an order.
+    pub order: ListingOrder,
+    /// The session that it is about, where it isn't about all.
+    pub session: Option<&'a str>,
+    /// How many states may be met before it ends.
+    pub max_states: usize,
+}
+
+/// What was written.
+#[derive(Clone, Copy, Debug, PartialEq, Eq, Drop)]
+pub enum ExploreOutcome {
+    /// The listings of all schedules.
+    Complete,
+    /// Those that were found among so many states.
+    Incomplete,
+    /// Nothing: the control list creates no session of the name that is asked for.
+    NoSession,
+    /// What the refusal says.
+    Refused(RunRefusal),
+}

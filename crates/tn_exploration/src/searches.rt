@@ -1,0 +1,94 @@
+// The texts of searches, one after another.
+ghost use Rattle.std.specs.Prelude.{◌≡◌, ◌&&◌, ◌∷◌, [], IfOk, map};
+ghost use Rattle.tn_program.specs.Views.{program_of};
+ghost use Rattle.tn_exploration.specs.Requests.{AddsSearch, AddsSearches, groups_of};
+
+use crate::request::ExploreRequest;
+use crate::sessions::names_at;
+use std::alloc::{AllocError, Allocator};
+use tn_answers::exploration_text;
+use tn_program::Program;
+use tn_search::explore_program;
+
+/// Appends the text of a search about the sessions at some places: whether it tried all states.
+fn put_search<A: Allocator + Copy>(
+    alloc: A,
+    program: &Program<A>,
+    request: &ExploreRequest<'_>,
+    before: &[u32],
+    places: &[usize],
+    text: &mut Vec<u8, A>,
+) -> Result<bool, AllocError>
+    ensures { IfOk result (AddsSearch request.now (program_of program.now) before.now places.now
+        text.old.items text.new.items) }
+{
+    let names = names_at(alloc, program, places)?;
+    let most = request.max_states;
+    let exploration = explore_program(alloc, program, before, request.order, places, most)?;
+    let own = exploration_text(alloc, &names, &exploration)?;
+    text.extend_from_slice(&own)?;
+    Ok(exploration.is_complete)
+}
+
+/// Appends that of the session at a place.
+fn put_one<A: Allocator + Copy>(
+    alloc: A,
+    program: &Program<A>,
+    request: &ExploreRequest<'_>,
+    before: &[u32],
+    place: usize,
+    text: &mut Vec<u8, A>,
+) -> Result<bool, AllocError>
+    ensures { IfOk result (AddsSearch request.now (program_of program.now) before.now (place ∷ [])
+        text.old.items text.new.items) }
+{
+    let mut places = Vec::new(alloc);
+    places.push(place)?;
+    put_search(alloc, program, request, before, &places, text)
+}
+
+/// Whether both are so.
+fn both(one: bool, other: bool) -> bool
+    ensures { result ≡ (one && other) }
+{
+    one && other
+}
+
+/// Appends those of the session at each of these places: whether all tried all states.
+fn put_each<A: Allocator + Copy>(
+    alloc: A,
+    program: &Program<A>,
+    request: &ExploreRequest<'_>,
+    before: &[u32],
+    places: &[usize],
+    text: &mut Vec<u8, A>,
+) -> Result<bool, AllocError>
+    ensures { IfOk result (AddsSearches request.now (program_of program.now) before.now
+        (map (λ n. n ∷ []) places.now) text.old.items text.new.items) }
+{
+    let mut all = true;
+    for place in places {
+        let whole = put_one(alloc, program, request, before, *place, text)?;
+        all = both(all, whole);
+    }
+    Ok(all)
+}
+
+/// Appends the texts of the searches about each session by itself; where there is none, of one about what moves.
+pub(crate) fn put_groups<A: Allocator + Copy>(
+    alloc: A,
+    program: &Program<A>,
+    request: &ExploreRequest<'_>,
+    before: &[u32],
+    places: &[usize],
+    text: &mut Vec<u8, A>,
+) -> Result<bool, AllocError>
+    ensures { IfOk result (AddsSearches request.now (program_of program.now) before.now (groups_of places.now)
+        text.old.items text.new.items) }
+{
+    if places.is_empty() {
+        put_search(alloc, program, request, before, places, text)
+    } else {
+        put_each(alloc, program, request, before, places, text)
+    }
+}
