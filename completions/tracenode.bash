@@ -18,7 +18,7 @@ _tracenode() {
         *,=) before=${COMP_WORDS[COMP_CWORD - 1]} word= ;;
     esac
     if [ "$COMP_CWORD" -eq 1 ]; then
-        words='run replay round workers explain draw spec fun help -h --help -V --version'
+        words='run replay round workers explain draw spec fun explore help -h --help -V --version'
         case ${COMP_WORDS[0]} in
             */*) words+=' --prove --install --release' ;;
         esac
@@ -27,7 +27,7 @@ _tracenode() {
         return
     else
         case $before in
-            --picks | --moves | --limit | --n | -n | --turns | --spread | --session | --move | --list | --me | --caller) return ;;
+            --picks | --moves | --after | --limit | --max-states | --n | -n | --turns | --spread | --session | --move | --list | --me | --caller) return ;;
             --expect-session | --expect-line | --reject-line | --max-output) return ;;
             --for)
                 COMPREPLY=($(compgen -W 'call send receive' -- "$word"))
@@ -35,6 +35,10 @@ _tracenode() {
                 ;;
             --control)
                 COMPREPLY=($(compgen -W 'first' -- "$word"))
+                return
+                ;;
+            --order)
+                COMPREPLY=($(compgen -W 'process total' -- "$word"))
                 return
                 ;;
             --picks-file | --moves-file | --expect | --file | --install | --release)
@@ -69,7 +73,8 @@ _tracenode() {
                 ;;
             spec) words='--list --for --me --caller --json --file -h --help' ;;
             fun) words='--for --pretty -h --help' ;;
-            help) words='run replay round workers explain draw spec fun' ;;
+            explore) words='--after --control --order --session --max-states --max-output -h --help' ;;
+            help) words='run replay round workers explain draw spec fun explore' ;;
         esac
     fi
     COMPREPLY=($(compgen -W "$words" -- "$word"))

@@ -22,7 +22,7 @@ from harness import SECONDS, START, TOP, check, run
 # The options of ./tracenode, which are not the program's.
 STARTS = {"--prove", "--install", "--release"}
 
-COMMANDS = (("run",), ("replay",), ("round",), ("workers",), ("explain",), ("draw",), ("spec",), ("fun",))
+COMMANDS = (("run",), ("replay",), ("round",), ("workers",), ("explain",), ("draw",), ("spec",), ("fun",), ("explore",))
 
 
 def documents():
@@ -186,6 +186,8 @@ def completions():
             (("tracenode", "workers", "--quiet", "scr"), ["scripts"]),
             (("tracenode", "spec", "--for", "s"), ["send"]),
             (("tracenode", "fun", "--for", "r"), ["receive"]),
+            (("tracenode", "explore", "--order", "t"), ["total"]),
+            (("tracenode", "explore", "--m"), ["--max-output", "--max-states"]),
             (("tracenode", "replay", "scr"), ["scripts"]),
             (("tracenode", "replay", "scripts/tw"), ["scripts/twice.term", "scripts/two words.term"]),
             (("tracenode", "replay", "scripts/two\\ w"), ["scripts/two words.term"]),

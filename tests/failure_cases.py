@@ -114,6 +114,9 @@ def growing():
         yield words, numbers
     for words in (["workers", "--n", "1"], ["replay", *EVERY_LINE]):
         yield words, every
+    race = (EXAMPLES / "race.term").read_bytes()
+    for words in (["explore", "--control", "first"], ["explore", "--after", "0*4 100*4"]):
+        yield words, race
     spec = "[{['$1','$2'],[{'>','$2',3}],[{message,{{a,'$1'}}},\"text\"]},{'_',[],[{return_trace}]}]"
     for words in (["fun", "fun([X,Y]) when Y > 3 -> message({a,X}), \"text\"; (_) -> return_trace() end"], ["fun", "--pretty", spec]):
         yield words, b""

@@ -19,6 +19,7 @@ import bound_cases
 import command_line_cases
 import document_cases
 import explanation_cases
+import exploration_cases
 import failure_cases
 import format_cases
 import fun_cases
@@ -70,6 +71,11 @@ SUBJECTS = {
         fun_cases.fun_refusals,
         fun_cases.fun_limits,
         fun_cases.fun_table,
+    ),
+    "exploration": (
+        exploration_cases.counts,
+        exploration_cases.schedules_by_hand,
+        exploration_cases.bad_explorations,
     ),
     "format": (format_cases.formats, format_cases.schema),
     "bound": (

@@ -26,10 +26,13 @@ use Rattle.tn_request.specs.declared.request.ExpectationArgs.{ExpectationArgs}
 use Rattle.tn_request.specs.declared.request.SessionArgs.{SessionArgs}
 use Rattle.tn_request.specs.declared.request.SpecTestArgs.{SpecTestArgs}
 use Rattle.tn_request.specs.declared.request.FunArgs.{FunArgs}
+use Rattle.tn_request.specs.declared.request.ExploreArgs.{ExploreArgs}
+use Rattle.tn_search.specs.declared.exploration.ListingOrder.{ListingOrder}
+use Rattle.tn_search.specs.declared.exploration.ListingOrder.TheVariants.{Total, ByProcess}
 use Rattle.tn_request.specs.declared.request.RunRequest.{RunRequest}
 use Rattle.tn_request.specs.declared.request.RunRequest.TheVariants.{Replay, Explain, Draw, Round}
 use Rattle.tn_request.specs.declared.request.Request.{Request}
-use Rattle.tn_request.specs.declared.request.Request.TheVariants.{Run, Workers, Spec, Fun}
+use Rattle.tn_request.specs.declared.request.Request.TheVariants.{Run, Workers, Spec, Fun, Explore}
 
 -- the text that the command line gives for this name
 abbrev pub argument : ArgMatches → List ℕ → Option (List ℕ)
@@ -166,6 +169,23 @@ IsFunOf m f =
     × (f.pretty ≡ is_given m (codes "pretty"))
     × IsTextOf (argument m (codes "fun")) f.text
 
+-- the moves with which all schedules begin: all commands of the control list where `--control first` is given, else those of `--after`
+abbrev pub first_moves : ArgMatches → List ℕ
+first_moves m = if takes_control_first m then codes "0!" else unwrap_or (argument m (codes "after")) []
+
+-- which messages are in an order: all of a session, or those of one process
+abbrev pub order_named : List ℕ → ListingOrder
+order_named order = if bytes_eq order (codes "total") then Total else ByProcess
+
+-- the script, the first moves, what `--order` and `--session` name, and the number of `--max-states`
+abbrev pub IsExplorationOf : ArgMatches → ExploreArgs → Type 0
+IsExplorationOf m x =
+    IsSourceNamed (argument m (codes "script")) x.script
+    × (x.before.now ≡ first_moves m)
+    × (x.order ≡ order_named (unwrap_or (argument m (codes "order")) (codes "process")))
+    × IsTextOf (option_map session_named (argument m (codes "session"))) x.session
+    × IsGiven 1 4294967295 (argument m (codes "max-states")) x.max_states
+
 -- a source that is given is the one that the text names
 abbrev pub IsSourceOrNone : Option (List ℕ) → Option Source → Type 0
 IsSourceOrNone None s = s ≡ None
@@ -215,6 +235,7 @@ Asks name m (Workers w) =
     × (w.quiet ≡ is_given m (codes "quiet")) × IsExpectationOf m w.expectation
 Asks name m (Spec trial) = (name ≡ codes "spec") × IsTrialOf m trial
 Asks name m (Fun fun) = (name ≡ codes "fun") × IsFunOf m fun
+Asks name m (Explore exploration) = (name ≡ codes "explore") × IsExplorationOf m exploration
 
 -- the run is a round, whose limit is no number or is out of its bounds
 abbrev pub LacksLimit : ArgMatches → Type 0
@@ -231,6 +252,7 @@ LacksNumber name m =
     ⊎ ((name ≡ codes "workers") × (¬ (IsBetween 1 16 (argument m (codes "n")) × IsBetween 1 65536 (argument m (codes "turns")))))
     ⊎ ((name ≡ codes "workers") × IsSomeAnd (argument m (codes "spread")) (λ text. ¬ (IsPlainNumber text)))
     ⊎ ((name ≡ codes "spec") × NamesNoProcess (unwrap_or (argument m (codes "me")) []))
+    ⊎ ((name ≡ codes "explore") × (¬ (IsBetween 1 4294967295 (argument m (codes "max-states")))))
 
 -- the subcommand that was found lacks a number
 pub record IsWithoutNumber (m : ArgMatches) : Type 0 where
@@ -244,7 +266,7 @@ pub record IsWithoutNumber (m : ArgMatches) : Type 0 where
 abbrev pub NamesNoCommand : ArgMatches → Type 0
 NamesNoCommand m =
     (subcommand_name_of m ≢ Some (codes "run")) × (subcommand_name_of m ≢ Some (codes "replay")) × (subcommand_name_of m ≢ Some (codes "explain")) × (subcommand_name_of m ≢ Some (codes "draw")) × (subcommand_name_of m ≢ Some (codes "round"))
-    × (subcommand_name_of m ≢ Some (codes "workers")) × (subcommand_name_of m ≢ Some (codes "spec")) × (subcommand_name_of m ≢ Some (codes "fun"))
+    × (subcommand_name_of m ≢ Some (codes "workers")) × (subcommand_name_of m ≢ Some (codes "spec")) × (subcommand_name_of m ≢ Some (codes "fun")) × (subcommand_name_of m ≢ Some (codes "explore"))
 
 -- the subcommand that was found asks for it
 pub record IsAskedBy (m : ArgMatches) (ask : Request) : Type 0 where

@@ -1,12 +1,13 @@
 //! The program `tracenode`: a script from a file or standard input, the output on standard output.
 //!
 //! Depends on tn_command, which promises what is written, and on `clap`, which reads the command line. The status is 0
-//! for a listing or help, 1 for an unmet expectation, 2 for a refusal and 3 for a fault, with a line of text.
+//! for a listing or help, 1 for an unmet expectation, 2 for a refusal, 3 for a fault, with a line of text, and 4 for
+//! an exploration that isn't complete.
 #![tactic(auto)]
 
 ghost use Rattle.std.specs.Prelude.{IfErr};
 ghost use Rattle.std.specs.Process.{exit_status};
-ghost use Rattle.tn_command.specs.Status.{IsStatus};
+ghost use Rattle.tn_command.specs.Explorations.{IsExplorationStatus};
 
 mod format;
 mod output_bound;
@@ -36,7 +37,7 @@ fn text_of<R: Input + Files + Eprint + AllocGlobal>(
     rt: &R,
     request: &Request<'_>,
 ) -> Result<Vec<u8>, ExitCode>
-    ensures { IfErr result (λ s. IsStatus (exit_status s)) }
+    ensures { IfErr result (λ s. IsExplorationStatus (exit_status s)) }
 {
     match request.text_source() {
         None => Ok(Vec::new(rt.alloc())),
@@ -53,7 +54,7 @@ fn run_request<R: Input + Files + Print + Eprint + AllocGlobal + Threads + Wait 
     request: &Request<'_>,
     form: OutputForm,
 ) -> ExitCode
-    ensures { IsStatus (exit_status result) }
+    ensures { IsExplorationStatus (exit_status result) }
 {
     if let Some((one, other)) = request.shared_input() {
         print_notice(rt, Notice::BothFromInput { one, other });
@@ -74,7 +75,7 @@ fn run_request<R: Input + Files + Print + Eprint + AllocGlobal + Threads + Wait 
 
 /// Says that a value is no number, as other wrong values are refused.
 fn refuse_number<R: Eprint + AllocGlobal>(rt: &R, bad: BadNumber<'_>) -> ExitCode
-    ensures { IsStatus (exit_status result) }
+    ensures { IsExplorationStatus (exit_status result) }
 {
     let BadNumber {
         option,
@@ -101,7 +102,7 @@ fn run_command<R: Input + Files + Print + Eprint + AllocGlobal + Threads + Wait 
     rt: &R,
     matches: &ArgMatches<'_>,
 ) -> ExitCode
-    ensures { IsStatus (exit_status result) }
+    ensures { IsExplorationStatus (exit_status result) }
 {
     let form = match most_of(matches) {
         Ok(most) => OutputForm {
@@ -119,7 +120,7 @@ fn run_command<R: Input + Files + Print + Eprint + AllocGlobal + Threads + Wait 
 
 /// Prints the help on standard output, or why the command line is refused on standard error.
 fn explain<R: Print + Eprint + AllocGlobal>(rt: &R, error: &clap::Error) -> ExitCode
-    ensures { IsStatus (exit_status result) }
+    ensures { IsExplorationStatus (exit_status result) }
 {
     if error.use_stderr() {
         let _ = error.print(rt);
@@ -155,7 +156,7 @@ fn refuse_plain<R: Print + Eprint + AllocGlobal>(
     words: &[String],
     error: &clap::Error,
 ) -> ExitCode
-    ensures { IsStatus (exit_status result) }
+    ensures { IsExplorationStatus (exit_status result) }
 {
     let Ok(command) = command(rt.alloc()) else {
         return report(rt, CommandFault::Memory);
@@ -174,7 +175,7 @@ fn refuse<R: Print + Eprint + AllocGlobal>(
     words: &[String],
     error: &clap::Error,
 ) -> ExitCode
-    ensures { IsStatus (exit_status result) }
+    ensures { IsExplorationStatus (exit_status result) }
 {
     match plain_words(rt.alloc(), words) {
         Ok(plain) => refuse_plain(rt, &plain, error),
@@ -187,7 +188,7 @@ fn program<R: Env + Input + Files + Print + Eprint + AllocGlobal + Threads + Wai
     rt: &R,
     words: &[String],
 ) -> ExitCode
-    ensures { IsStatus (exit_status result) }
+    ensures { IsExplorationStatus (exit_status result) }
 {
     let Ok(command) = command(rt.alloc()) else {
         return report(rt, CommandFault::Memory);
@@ -203,7 +204,7 @@ fn program<R: Env + Input + Files + Print + Eprint + AllocGlobal + Threads + Wai
 fn start<R: Env + Input + Files + Print + Eprint + AllocGlobal + Threads + Wait + Sync>(
     rt: &R,
 ) -> ExitCode
-    ensures { IsStatus (exit_status result) }
+    ensures { IsExplorationStatus (exit_status result) }
 {
     match arguments(rt) {
         Ok(words) => program(rt, &words),

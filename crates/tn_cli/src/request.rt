@@ -4,7 +4,7 @@ ghost use Rattle.tn_cli.specs.Requests.{argument, is_given, picture_format_named
 ghost use Rattle.tn_cli.specs.Requests.{number_given, IsNumberOrNone};
 ghost use Rattle.tn_cli.specs.Requests.{NamesProcess, NamesNoProcess, ArePicksOf, IsSourceNamed, Asks, IsAskedBy};
 ghost use Rattle.tn_cli.specs.Requests.{LacksLimit, LacksNumber, IsWithoutNumber, NamesNoCommand};
-ghost use Rattle.tn_cli.specs.Requests.{IsRunOf, takes_control_first};
+ghost use Rattle.tn_cli.specs.Requests.{IsRunOf, takes_control_first, first_moves, order_named};
 ghost use Rattle.tn_expectation.specs.Expectations.{words_of};
 ghost use Rattle.tn_cli.specs.Requests.{IsExpectationOf, IsListingOf, IsSourceOrNone, texts_given};
 
@@ -14,9 +14,10 @@ use tn_command::{Source, plain_number, source_of};
 use tn_explain::Filter;
 use tn_picture::PictureFormat;
 use tn_request::{
-    ExpectationArgs, FunArgs, PicksSource, Request, RunRequest, RunSource, SessionArgs,
-    SpecTestArgs, WorkersRequest,
+    ExpectationArgs, ExploreArgs, FunArgs, PicksSource, Request, RunRequest, RunSource,
+    SessionArgs, SpecTestArgs, WorkersRequest,
 };
+use tn_search::ListingOrder;
 use tn_spec::Dialect;
 
 /// A value that isn't a number that the option takes.
@@ -330,6 +331,42 @@ fn fun<'s, 'a: 's>(matches: &'s ArgMatches<'a>) -> Request<'s>
     })
 }
 
+/// The text of the moves with which all schedules begin: all commands of the control list, or those that are given.
+fn first_moves<'a>(matches: &ArgMatches<'a>) -> &'a str
+    ensures { result.now ≡ first_moves matches.now }
+{
+    if control_first(matches) {
+        "0!"
+    } else {
+        matches.get_str("after").unwrap_or("")
+    }
+}
+
+/// Which messages of a session are in an order.
+fn listing_order(order: &str) -> ListingOrder
+    ensures { result ≡ order_named order.now }
+{
+    match order {
+        "total" => ListingOrder::Total,
+        _ => ListingOrder::ByProcess,
+    }
+}
+
+/// What `explore` asks for.
+fn exploration<'s, 'a: 's>(matches: &'s ArgMatches<'a>) -> Result<Request<'s>, BadNumber<'s>>
+    ensures asks { IfOk result (Asks (codes "explore") matches.now) }
+    ensures refused { IfErr result (λ e. LacksNumber (codes "explore") matches.now) }
+{
+    let max_states = number(matches, "max-states", "--max-states <N>", 1, 4294967295)?;
+    Ok(Request::Explore(ExploreArgs {
+        script: script(matches),
+        before: first_moves(matches),
+        order: listing_order(matches.get_str("order").unwrap_or("process")),
+        session: matches.get_str("session").map(session_name),
+        max_states,
+    }))
+}
+
 /// What the command line asks for, by the subcommand that it names; None where it names none.
 pub fn request_of<'s, 'a: 's>(
     matches: &'s ArgMatches<'a>,
@@ -347,6 +384,7 @@ pub fn request_of<'s, 'a: 's>(
         Some(("workers", given)) => Ok(Some(workers(given)?)),
         Some(("spec", given)) => Ok(Some(spec(given)?)),
         Some(("fun", given)) => Ok(Some(fun(given))),
+        Some(("explore", given)) => Ok(Some(exploration(given)?)),
         _ => Ok(None),
     }
 }

@@ -2,6 +2,7 @@ mod NumberLemmas
 mod StatusLemmas
 mod PrintLemmas
 mod FormLemmas
+mod ExplorationLemmas
 mod SpecNotes
 mod SpecNoteRows
 mod SpecNoteTerms

@@ -37,7 +37,7 @@ module _ {R W O F : Type 0} (job : JobView O F) (known : R → Option (List ℕ)
   by_end f (writer_failed n) is h = inr (n, (h.on_write n is).written)
   by_end f no_end_failed is h = inl (ap (λ w. gained (watched_inner w)) (h.on_neither is).unwritten)
 
-  at_fault : (answer : Result O F) → Meets job known reader reader' gained writer writer' answer
+  pub at_fault : (answer : Result O F) → Meets job known reader reader' gained writer writer' answer
       → OnErr answer ((gained (watched_inner writer') ≡ gained (watched_inner writer)) ⊎ ((k : ℕ) × WritesSome job (known (watched_inner reader)) (gained (watched_inner writer)) (gained (watched_inner writer')) k))
   at_fault (Ok o) h = tt
   at_fault (Err f) h = by_end f (job.end_of f) refl h

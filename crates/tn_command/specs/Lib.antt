@@ -9,5 +9,6 @@ pub mod SpecTests
 pub mod SpecNotes
 pub mod SpecNoteViews
 pub mod Delays
+pub mod Explorations
 pub mod PrintedJobs
 pub mod Notices

@@ -1,13 +1,15 @@
 //! What a command of the command line does once its words are read, and its exit status.
 //!
-//! Depends on tn_run, tn_replay, tn_explain, tn_picture, tn_formats and tn_notice. Promises that each job is done as
-//! its crate says, in its format and within its bound, and that the status is its answer's, or 1 for an unmet
-//! expectation or a flaw under `--strict`; and which notice there is of a fault, of an outcome and of refused moves.
+//! Depends on tn_run, tn_replay, tn_explain, tn_picture, tn_exploration, tn_formats and tn_notice. Promises that each
+//! job is done as its crate says, in its format and within its bound, and that the status is its answer's, or 1 for an
+//! unmet expectation or a flaw under `--strict`, or 4 for an exploration that isn't complete; and which notice there is
+//! of a fault, of an outcome and of refused moves.
 #![tactic(auto)]
 
 mod command;
 mod draw;
 mod expectation_file;
+mod explore;
 mod in_format;
 mod jobs;
 mod judgement;
@@ -35,6 +37,7 @@ mod workers_form;
 
 pub use command::Command;
 pub use expectation_file::expected_text;
+pub use explore::{INCOMPLETE, explore_script, print_exploration_over};
 pub use in_format::InFormat;
 pub use jobs::{INPUT, Streams, perform, perform_over, print_over};
 pub use last_error::LastError;

@@ -131,6 +131,10 @@ TRIAL = codes "list" ∷ codes "for" ∷ codes "me" ∷ codes "caller" ∷ codes
 abbrev pub FUN_ARGUMENTS : List (List ℕ)
 FUN_ARGUMENTS = codes "for" ∷ codes "pretty" ∷ codes "fun" ∷ []
 
+-- the arguments of `explore`
+abbrev pub EXPLORE_ARGUMENTS : List (List ℕ)
+EXPLORE_ARGUMENTS = codes "script" ∷ codes "after" ∷ codes "control" ∷ codes "order" ∷ codes "session" ∷ codes "max-states" ∷ codes "max-output" ∷ []
+
 -- the commands of the program
 abbrev pub COMMAND_NAMES : List (List ℕ)
-COMMAND_NAMES = codes "run" ∷ codes "replay" ∷ codes "round" ∷ codes "workers" ∷ codes "explain" ∷ codes "draw" ∷ codes "spec" ∷ codes "fun" ∷ []
+COMMAND_NAMES = codes "run" ∷ codes "replay" ∷ codes "round" ∷ codes "workers" ∷ codes "explain" ∷ codes "draw" ∷ codes "spec" ∷ codes "fun" ∷ codes "explore" ∷ []

@@ -271,7 +271,7 @@ pub(crate) fn limit<'a>(alloc: Global) -> Arg<'a>
 }
 
 /// When the control list may be taken.
-const ORDERS: &[&str] = &["first"];
+pub(crate) const ORDERS: &[&str] = &["first"];
 
 /// `--control first`.
 pub(crate) fn control<'a>(alloc: Global) -> Arg<'a>

@@ -7,6 +7,7 @@
 
 mod arguments;
 mod commands;
+mod explore_command;
 mod fun_command;
 
 pub use commands::command;

@@ -13,7 +13,7 @@ use Rattle.tn_request.specs.declared.request.TextSource.{TextSource}
 use Rattle.tn_request.specs.declared.request.TextSource.TheVariants.{Specification}
 use Rattle.tn_request.specs.declared.request.ExpectationArgs.{ExpectationArgs}
 use Rattle.tn_request.specs.declared.request.Request.{Request}
-use Rattle.tn_request.specs.declared.request.Request.TheVariants.{Run, Workers, Spec, Fun}
+use Rattle.tn_request.specs.declared.request.Request.TheVariants.{Run, Workers, Spec, Fun, Explore}
 use Rattle.tn_request.specs.InputsAsked.{input_pair_seen, both_inputs, input_list, first_two, first_two_of_four, of_source, text_input, expected_inputs, shared_input}
 use Rattle.tn_request.specs.RequestParts.{script_asked, text_source_asked, spec_text_source, IsRequestExpectation, IsAnyOutput}
 
@@ -82,6 +82,11 @@ none_expected e is =
     ap (λ x. first_two (input_list (of_source x the_output) ++ input_list (of_source (option_map (λ words. words.source) e.session) the_listing))) is.output
     ∙ ap (λ x. first_two (input_list (of_source (option_map (λ words. words.source) x) the_listing))) is.session
 
+empty_expected : (e : ExpectationArgs) → IsAnyOutput e → expected_inputs e ≡ []
+empty_expected e is =
+    ap (λ x. input_list (of_source x the_output) ++ input_list (of_source (option_map (λ words. words.source) e.session) the_listing)) is.output
+    ∙ ap (λ x. input_list (of_source (option_map (λ words. words.source) x) the_listing)) is.session
+
 -- the texts by the parts of a request are those of the request
 pub texts_by_parts : (r : Request) (e : ExpectationArgs) → IsRequestExpectation r e
     → first_two (input_list (of_source (script_asked r) the_script) ++ input_list (text_input (text_source_asked r)) ++ expected_inputs e) ≡ shared_input r
@@ -94,6 +99,9 @@ texts_by_parts (Workers workers) e is =
 texts_by_parts (Spec trial) e is =
     ap (λ x. first_two (input_list x ++ expected_inputs e)) (of_specification trial.file trial.specification) ∙ none_expected e is
 texts_by_parts (Fun fun) e is = ap (λ x. first_two (input_list x ++ expected_inputs e)) (of_specification None fun.text) ∙ none_expected e is
+texts_by_parts (Explore exploration) e is =
+    let script = input_list (of_source (Some exploration.script) the_script) in
+    ap (λ x. first_two (x ++ expected_inputs e)) (no_more script) ∙ ap (λ x. first_two (script ++ x)) (empty_expected e is) ∙ ap first_two (no_more script)
 
 -- the same, by what is seen of the parts
 pub texts_seen : (r : Request) (e : ExpectationArgs) (script : Option Source) (text : Option TextSource) (listing : Option Source) (a b c d : Option code.InputText)

@@ -4,5 +4,6 @@ pub mod Tasks
 pub mod TaskFlaws
 pub mod WorkersAsked
 pub mod TrialsAsked
+pub mod Explorations
 pub mod ExpectationsAsked
 pub mod InputsAsked

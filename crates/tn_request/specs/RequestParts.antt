@@ -12,7 +12,7 @@ use Rattle.tn_request.specs.declared.request.RunSource.TheVariants.{ByPicks, ByR
 use Rattle.tn_request.specs.declared.request.RunRequest.{RunRequest}
 use Rattle.tn_request.specs.declared.request.RunRequest.TheVariants.{Replay, Explain, Draw, Round}
 use Rattle.tn_request.specs.declared.request.Request.{Request}
-use Rattle.tn_request.specs.declared.request.Request.TheVariants.{Run, Workers, Spec, Fun}
+use Rattle.tn_request.specs.declared.request.Request.TheVariants.{Run, Workers, Spec, Fun, Explore}
 use Rattle.tn_request.specs.declared.request.TextSource.{TextSource}
 use Rattle.tn_request.specs.declared.request.TextSource.TheVariants.{Picks, Moves, Specification}
 
@@ -36,6 +36,7 @@ script_asked (Run run) = Some (run_script run)
 script_asked (Workers workers) = Some workers.script
 script_asked (Spec trial) = None
 script_asked (Fun fun) = None
+script_asked (Explore exploration) = Some exploration.script
 
 -- nothing is said of the output
 pub record IsAnyOutput (e : ExpectationArgs) : Type 0 where
@@ -45,12 +46,13 @@ pub record IsAnyOutput (e : ExpectationArgs) : Type 0 where
   pub no_lines : e.no_lines.now ≡ []
   pub strict : e.strict ≡ false
 
--- what the output of a request must be: anything, of a trial or a fun
+-- what the output of a request must be: anything, of a trial, a fun or an exploration
 abbrev pub IsRequestExpectation : Request → ExpectationArgs → Type 0
 IsRequestExpectation (Run run) e = e ≡ run_expectation run
 IsRequestExpectation (Workers workers) e = e ≡ workers.expectation
 IsRequestExpectation (Spec trial) e = IsAnyOutput e
 IsRequestExpectation (Fun fun) e = IsAnyOutput e
+IsRequestExpectation (Explore exploration) e = IsAnyOutput e
 
 -- the text of picks or of moves that is to be read: none where it is given
 abbrev pub picks_source_asked : PicksSource → Option TextSource
@@ -83,3 +85,4 @@ text_source_asked (Run run) = run_text_source run
 text_source_asked (Workers workers) = None
 text_source_asked (Spec trial) = spec_text_source trial.file trial.specification
 text_source_asked (Fun fun) = spec_text_source None fun.text
+text_source_asked (Explore exploration) = None

@@ -1,10 +1,12 @@
 //! What the command line asks for, once its words are read, and the job that this is.
 //!
-//! Depends on tn_command, and on the crates of its jobs. Promises that the schedule, the job, the workers and the trial
-//! of a request are the defined ones, and that a writer gains what the defined job writes of a reader's script.
+//! Depends on tn_command, and on the crates of its jobs. Promises that the schedule, the job, the workers, the trial
+//! and the exploration of a request are the defined ones, and that a writer gains what the defined job writes of a
+//! reader's script.
 #![tactic(auto)]
 
 mod answer;
+mod exploration;
 mod fun_text;
 mod inputs;
 mod job;
@@ -15,12 +17,13 @@ mod trial;
 mod workers;
 
 pub use answer::{answer_request, perform_request_over, print_request_over};
+pub use exploration::exploration_of;
 pub use fun_text::fun_text_of;
 pub use job::{RequestJob, RequestOutcome, format_of, job_of};
 pub use output::{ExpectedTexts, expectation_of, expected_texts};
 pub use request::{
-    ExpectationArgs, FunArgs, PicksSource, Request, RunRequest, RunSource, SessionArgs,
-    SpecTestArgs, TextSource, WorkersRequest,
+    ExpectationArgs, ExploreArgs, FunArgs, PicksSource, Request, RunRequest, RunSource,
+    SessionArgs, SpecTestArgs, TextSource, WorkersRequest,
 };
 pub use schedule::schedule_of;
 pub use trial::spec_input_of;

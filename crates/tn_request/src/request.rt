@@ -4,6 +4,7 @@ ghost use Rattle.std.specs.Prelude.{◌≡◌, None};
 use tn_command::Source;
 use tn_explain::Filter;
 use tn_picture::PictureFormat;
+use tn_search::ListingOrder;
 use tn_spec::Dialect;
 
 /// Where the text of picks or of moves is.
@@ -63,6 +64,20 @@ pub struct FunArgs<'a> {
     pub pretty: bool,
     /// The text, where it isn't standard input.
     pub text: Option<&'a str>,
+}
+
+/// What is asked of all schedules of a script, in the words of `explore`.
+#[derive(Clone, Copy)]
+pub struct ExploreArgs<'a> {
+    pub script: Source<'a>,
+    /// The text of the moves with which they begin.
+    pub before: &'a str,
+    /// Which messages of a session are in an order.
+    pub order: ListingOrder,
+    /// The session that it is about, where it isn't about all.
+    pub session: Option<&'a str>,
+    /// How many states may be met before it ends.
+    pub max_states: u32,
 }
 
 /// What an output must be, in the words of the command line.
@@ -150,6 +165,8 @@ pub enum Request<'a> {
     Spec(SpecTestArgs<'a>),
     /// The specification of a fun.
     Fun(FunArgs<'a>),
+    /// The listings of all schedules.
+    Explore(ExploreArgs<'a>),
 }
 
 /// A text that a request needs beside the script, and where it is.
@@ -265,14 +282,14 @@ impl<'a> FunArgs<'a> {
 impl<'a> Request<'a> {
     ghost use Rattle.tn_request.specs.RequestParts.{IsRequestExpectation, script_asked, text_source_asked};
 
-    /// What the output must be; anything, of a trial or a fun.
+    /// What the output must be; anything, of a trial, a fun or an exploration.
     pub fn expectation(&self) -> ExpectationArgs<'a>
         ensures { IsRequestExpectation self.now result }
     {
         match *self {
             Request::Run(run) => run.expectation(),
             Request::Workers(workers) => workers.expectation,
-            Request::Spec(_) | Request::Fun(_) => ANY_OUTPUT,
+            Request::Spec(_) | Request::Fun(_) | Request::Explore(_) => ANY_OUTPUT,
         }
     }
 
@@ -284,6 +301,7 @@ impl<'a> Request<'a> {
             Request::Run(run) => Some(run.script()),
             Request::Workers(workers) => Some(workers.script),
             Request::Spec(_) | Request::Fun(_) => None,
+            Request::Explore(exploration) => Some(exploration.script),
         }
     }
 
@@ -293,7 +311,7 @@ impl<'a> Request<'a> {
     {
         match *self {
             Request::Run(run) => run.text_source(),
-            Request::Workers(_) => None,
+            Request::Workers(_) | Request::Explore(_) => None,
             Request::Spec(trial) => trial.text_source(),
             Request::Fun(fun) => fun.text_source(),
         }

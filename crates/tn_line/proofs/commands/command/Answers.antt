@@ -1,7 +1,7 @@
 use Rattle.std.proofs.Common.{◌≡◌, rules, codes, []}
 use Rattle.std.proofs.lemmas.Result.{IfOk-weaker}
 use Rattle.clap.specs.Built.{subcommand_names}
-use Rattle.tn_line.specs.Line.{RUN, REPLAY, EXPLAIN, DRAW, ROUND, WORKERS, TRIAL, FUN_ARGUMENTS}
+use Rattle.tn_line.specs.Line.{RUN, REPLAY, EXPLAIN, DRAW, ROUND, WORKERS, TRIAL, FUN_ARGUMENTS, EXPLORE_ARGUMENTS}
 use Rattle.tn_line.proofs.Names.{command_made}
 use Rattle.tn_line.proofs.commands.command.Goals as goal
 
@@ -22,6 +22,8 @@ returns c =
     c.draw.ensures.arguments c.in_ok-command-7.ensures in
     let sixth = command_made _ (codes "spec") TRIAL c.in_ok-command-7.command c.in_ok-command-8.command c.spec.result fifth
     c.spec.ensures c.in_ok-command-8.ensures in
-    IfOk-weaker c.with_subcommand-8.result _ _
-    (λ new added. command_made _ (codes "fun") FUN_ARGUMENTS c.in_ok-command-8.command new c.fun.result sixth c.fun.ensures added)
-    c.with_subcommand-8.ensures
+    let seventh = command_made _ (codes "fun") FUN_ARGUMENTS c.in_ok-command-8.command c.in_ok-command-9.command c.fun.result sixth
+    c.fun.ensures c.in_ok-command-9.ensures in
+    IfOk-weaker c.with_subcommand-9.result _ _
+    (λ new added. command_made _ (codes "explore") EXPLORE_ARGUMENTS c.in_ok-command-9.command new c.explore.result seventh c.explore.ensures added)
+    c.with_subcommand-9.ensures
