@@ -3,8 +3,8 @@
 //! Depends on `def_fun` (texts of funs, calls, constants), on `tn_fun` (operators), `tn_spec` (dialects,
 //! kinds of atoms), `tn_term` and `tn_text`. Promises: `write_fun` appends the text of the fun that has a
 //! specification, or answers why no fun has it; `NoFun::write` appends the line that says so; `fun_of_spec` gives the
-//! fun or that line for a text, or the fault of one that spells no specification. A reason lends what it names from the
-//! term.
+//! fun or that line for a text, or the fault of one that spells no specification. A reason refers to what it names in
+//! the term.
 #![tactic(auto)]
 
 mod calls;
