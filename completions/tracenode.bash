@@ -29,6 +29,7 @@ _tracenode() {
         case $before in
             --picks | --moves | --after | --limit | --max-states | --n | -n | --turns | --spread | --session | --move | --list | --me | --caller) return ;;
             --expect-session | --expect-line | --reject-line | --max-output) return ;;
+            --shows | --always | --never | --sometimes) return ;;
             --for)
                 COMPREPLY=($(compgen -W 'call send receive' -- "$word"))
                 return
@@ -73,7 +74,8 @@ _tracenode() {
                 ;;
             spec) words='--list --for --me --caller --json --file -h --help' ;;
             fun) words='--for --pretty -h --help' ;;
-            explore) words='--after --control --order --session --max-states --max-output -h --help' ;;
+            explore) words='--after --control --order --session --shows --always --never --sometimes'
+                words+=' --max-states --max-output -h --help' ;;
             help) words='run replay round workers explain draw spec fun explore' ;;
         esac
     fi

@@ -1,4 +1,6 @@
-"""Cases of explorations: how many states and listings there are, journals that give their listings, runs by hand, refusals."""
+"""Cases of explorations: how many states and listings there are, journals that give their listings, runs by hand, words for
+patterns, refusals.
+"""
 import re
 import shlex
 
@@ -101,6 +103,108 @@ def schedules_by_hand():
         begun = run(["replay", "--quiet", "--moves", first], script).stdout.decode().rpartition("== journal\n")[2].strip()
         listings = all_listings(script, begun, movers.split())
         check(f"every schedule of {name} after {first}", found == listings, (len(found), len(listings)))
+
+
+# Patterns, each with the messages that match it, as a regular expression of their text.
+PATTERNS = (
+    ("{trace,'_',call,{m,handle,[2]}}", r"\{trace,<[^>]+>,call,\{m,handle,\[2\]\}\}"),
+    ("{trace,'$1',call,{m,'$2','$3'}}", r"\{trace,<[^>]+>,call,\{m,[a-z_]+,\[.*\]\}\}"),
+    ("{trace,'_',call,{m,'$1',['$1']}}", r"\{trace,<[^>]+>,call,\{m,([a-z_]+),\[\1\]\}\}"),
+    ("{trace,<0.100.0>,return_from,'_','_'}", r"\{trace,<0\.100\.0>,return_from,.*\}"),
+    ("{trace,'_',send,'_','$1'}", r"\{trace,<[^>]+>,send,.*,<[^>]+>\}"),
+    ("{trace,'$1','_','$1'}", r"\{trace,(<[^>]+>),[a-z_]+,\1\}"),
+    ("'_'", r".*"),
+    ("[trace]", r"\[trace\]"),
+)
+
+
+def line_of(words, journals):
+    """The line of the first of some journals; nothing where there is none."""
+    return f"{words} {journals[0]}".strip() + "\n" if journals else ""
+
+
+def refutes(demand, shown, missed, whole):
+    """Whether journals of both kinds refute what is demanded."""
+    wrong = {"shows": [], "always": missed, "never": shown, "sometimes": []}[demand]
+    needed = {"shows": [], "always": [shown], "never": [missed], "sometimes": [shown, missed]}[demand]
+    return bool(wrong) or (whole and not all(needed))
+
+
+def word_lines(entries, whole, pattern, demand):
+    """The lines of a pattern by the entries of an exploration without patterns, and whether the demand is refuted."""
+    text, match = pattern
+    sort = {True: [], False: []}
+    for journal, listing_text in entries:
+        sort[any(re.fullmatch(match, line) for line in listing_text.splitlines()[1:])].append(journal)
+    shown, missed = sort[True], sort[False]
+    word = "sometimes" if shown and missed else "unknown" if not whole else "always" if shown else "never"
+    refuted = refutes(demand, shown, missed, whole)
+    told = f"refuted: {demand}\n" if refuted else ""
+    return f"{word}: {text}\n{told}" + line_of("shown by", shown) + line_of("not by", missed), refuted
+
+
+def headers(script):
+    """The header of each session, in the order of the control list."""
+    return re.findall(r"(?m)^== session .*\n", run(["round", "--quiet", "--control", "first"], script).stdout.decode())
+
+
+def expected_words(script, plain, asked):
+    """The output and the status by the output of an exploration without patterns. Demands and patterns go together."""
+    output, refuted, complete = "", False, True
+    for header, (entries, end) in zip(headers(script), searches(plain)):
+        whole = end[1] is not None
+        lines = [word_lines(entries, whole, pattern, demand) for demand, pattern in asked]
+        output += header + "".join(text for text, _ in lines) + end[0]
+        refuted = refuted or any(one for _, one in lines)
+        complete = complete and whole
+    return output, 1 if refuted else 0 if complete else 4
+
+
+# Systems that are asked about patterns, with words of the command line.
+ASKED = (
+    ("race", ""),
+    ("race", "--order total"),
+    ("race", "--control first"),
+    ("race", "--max-states 100"),
+    ("pool", "--control first"),
+    ("pool", "--max-states 2000"),
+    ("spawn_inheritance", ""),
+    ("worker_pool", "--order total"),
+    ("second_send", "--after '0!'"),
+)
+
+
+def patterns():
+    """The words for patterns and the status, by the listings that an exploration without patterns has."""
+    for name, words in ASKED:
+        script = script_of(name)
+        plain = run(["explore", *shlex.split(words)], script).stdout.decode()
+        for demands in (["shows"], ["always"], ["never"], ["sometimes"], ["shows", "always", "never", "sometimes"]):
+            asked = [(demand, pattern) for demand in demands for pattern in PATTERNS]
+            options = [word for demand, (text, _) in asked for word in (f"--{demand}", text)]
+            ran = run(["explore", *shlex.split(words), *options], script)
+            found = (ran.stdout.decode(), ran.returncode)
+            check(f"explore {words} of {name} with {demands}", found == expected_words(script, plain, asked), found)
+
+
+# Texts that are no patterns, and why.
+NO_PATTERNS = (
+    ("{trace", "it spells no term"),
+    ("a b", "it spells no term"),
+    ("", "it spells no term"),
+    ("{trace,'$1000'}", "an atom of $ and a number in it is no variable"),
+    ("[" * 33 + "]" * 33, "it nests too deep"),
+    ("1" * 30, "a part of it is past a limit"),
+)
+
+
+def bad_patterns():
+    """Texts that are no patterns: the option, the text and why."""
+    for option in ("--shows", "--always", "--never", "--sometimes"):
+        for text, why in NO_PATTERNS:
+            ran = run(["explore", "--shows", "'_'", option, text], SEND_HI)
+            told = f"error: invalid value '{text}' for '{option} <PATTERN>': {why}\n\nFor more information, try '--help'.\n"
+            check(f"explore {option} {text}", ran.returncode == 2 and not ran.stdout and ran.stderr == told.encode(), ran)
 
 
 def bad_explorations():

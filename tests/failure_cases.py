@@ -115,7 +115,8 @@ def growing():
     for words in (["workers", "--n", "1"], ["replay", *EVERY_LINE]):
         yield words, every
     race = (EXAMPLES / "race.term").read_bytes()
-    for words in (["explore", "--control", "first"], ["explore", "--after", "0*4 100*4"]):
+    shows = ["--shows", "{'$1','$2','$3',{'$4','$5','$6'}}", "--never", "{trace,'_',call,'_'}"]
+    for words in (["explore", "--control", "first"], ["explore", "--after", "0*4 100*4"], ["explore", "--after", "0*4 100*4", *shows]):
         yield words, race
     spec = "[{['$1','$2'],[{'>','$2',3}],[{message,{{a,'$1'}}},\"text\"]},{'_',[],[{return_trace}]}]"
     for words in (["fun", "fun([X,Y]) when Y > 3 -> message({a,X}), \"text\"; (_) -> return_trace() end"], ["fun", "--pretty", spec]):

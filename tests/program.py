@@ -75,6 +75,8 @@ SUBJECTS = {
     "exploration": (
         exploration_cases.counts,
         exploration_cases.schedules_by_hand,
+        exploration_cases.patterns,
+        exploration_cases.bad_patterns,
         exploration_cases.bad_explorations,
     ),
     "format": (format_cases.formats, format_cases.schema),

@@ -1,12 +1,14 @@
 // Messages that many states keep.
 ghost use Rattle.std.specs.Prelude.{◌≡◌, [], ◌∷◌, ◌++◌, List, IfOk, OnOk};
 ghost use Rattle.def_term.specs.Tree.{Tree};
+ghost use Rattle.tn_term.specs.Views.{tree_of};
 ghost use Rattle.tn_text.specs.WrittenTrees.{written_tree};
 ghost use Rattle.tn_messages.specs.MessageViews.{message_tree, trees_seen, lists_seen, AreByProcess};
 ghost use Rattle.complete_explore.specs.Explorations.{AreBothByProcess};
 
 use std::alloc::{AllocError, Allocator};
 use tn_messages::{MessageList, MessagesByProcess, SharedMessage};
+use tn_term::Term;
 use tn_text::WrittenTerm;
 
 /// The messages of each process, or refused memory.
@@ -48,6 +50,17 @@ pub fn text<'a, A: Allocator>(
     ensures { result.0.now ≡ result.1.now }
 {
     (one.text(), other.text())
+}
+
+/// `tn_messages::SharedMessage::term` has one answer.
+pub fn term<'a, A: Allocator>(
+    one: &'a SharedMessage<A>,
+    other: &'a SharedMessage<A>,
+) -> (&'a Term<A>, &'a Term<A>)
+    requires { message_tree one.now ≡ message_tree other.now }
+    ensures { tree_of result.0.now ≡ tree_of result.1.now }
+{
+    (one.term(), other.term())
 }
 
 /// `tn_messages::SharedMessage::pid` has one answer.

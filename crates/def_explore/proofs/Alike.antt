@@ -1,11 +1,8 @@
 -- Picks that lead to the same state go on alike.
 use Rattle.std.proofs.Common.{◌≡◌, ℕ, ◌+◌, List, [], ◌∷◌, ◌++◌, length, Bool, true, false, refl, sym, ap, ◌∙◌, arith, subst, append-nil, cond}
-use Rattle.std.specs.Prelude.{map, filter, ◌||◌}
-use Rattle.std.proofs.lemmas.List.Folds.{list_any-append}
-use Rattle.std.specs.List.{list_any}
+use Rattle.std.specs.Prelude.{map, filter}
 use Rattle.def_term.specs.Tree.{Tree}
 use Rattle.def_term.specs.Names.{Name}
-use Rattle.def_spec.specs.Matching.{Pattern}
 use Rattle.def_script.specs.Program.{Program}
 use Rattle.def_script.specs.Exports.{exports_of}
 use Rattle.def_session.specs.State.{Session, absent_session}
@@ -16,7 +13,7 @@ use Rattle.def_run.specs.Laws.{IsIdleAfter}
 use Rattle.def_run.proofs.Appends.{shown-append, place-append, own-append, messages-append, state-append}
 use Rattle.def_run.proofs.Replay.{room_spent, events_again, place_again}
 use Rattle.def_run.proofs.Runs.{idle_place, idle_shown}
-use Rattle.def_explore.specs.Rests.{RunQuestion, all_messages, by_process, matches, KeptMessages, kept_messages, kept_by_process, kept_matches, is_match, is_shown, is_of_process, each_process, all_pids, kept_of}
+use Rattle.def_explore.specs.Rests.{RunQuestion, all_messages, by_process, KeptMessages, kept_messages, kept_by_process, is_of_process, each_process, all_pids, kept_of}
 use Rattle.def_explore.specs.Alike.{SessionsAlike, IsStateAlike}
 use Rattle.def_explore.specs.Laws.{AlikeGoesOn, AlikeAreIdleAlike, AlikeHaveMovedAlike, IdleIsAlike, MovesAreAlike}
 
@@ -58,14 +55,6 @@ map_agree : (ss : List Name) (f g : Name → List Tree) → Agree ss f g → map
 map_agree [] f g h = refl
 map_agree (s ∷ ss) f g h = λ i. h.0 i ∷ map_agree ss f g h.1 i
 
-shown_agree : (a : Pattern) (ss : List Name) (f g : Name → List Tree) → Agree ss f g → is_shown a ss f ≡ is_shown a ss g
-shown_agree a [] f g h = refl
-shown_agree a (s ∷ ss) f g h = λ i. list_any (is_match a) (h.0 i) || shown_agree a ss f g h.1 i
-
-all_shown_agree : (qs : List Pattern) (ss : List Name) (f g : Name → List Tree) → Agree ss f g → map (λ a. is_shown a ss f) qs ≡ map (λ a. is_shown a ss g) qs
-all_shown_agree [] ss f g h = refl
-all_shown_agree (a ∷ qs) ss f g h = λ i. shown_agree a ss f g h i ∷ all_shown_agree qs ss f g h i
-
 split_agree : (ns : List ℕ) (ss : List Name) (f g : Name → List Tree) → Agree ss f g → map (λ s. each_process ns (f s)) ss ≡ map (λ s. each_process ns (g s)) ss
 split_agree ns [] f g h = refl
 split_agree ns (s ∷ ss) f g h = λ i. each_process ns (h.0 i) ∷ split_agree ns ss f g h.1 i
@@ -73,7 +62,6 @@ split_agree ns (s ∷ ss) f g h = λ i. each_process ns (h.0 i) ∷ split_agree 
 kept_agree : (q : RunQuestion) (ss : List Name) (f g : Name → List Tree) → Agree ss f g → kept_of q ss f ≡ kept_of q ss g
 kept_agree all_messages ss f g h = ap kept_messages (map_agree ss f g h)
 kept_agree by_process ss f g h = ap kept_by_process (split_agree all_pids ss f g h)
-kept_agree (matches qs) ss f g h = ap kept_matches (all_shown_agree qs ss f g h)
 
 -- the first of several, and the others
 abbrev pub first_of_all : {X : Type 0} → X → List X → X
@@ -91,27 +79,6 @@ agree_by_map (s ∷ ss) f g h = (ap (first_of_all []) h, agree_by_map ss f g (ap
 agree_more : (ss : List Name) (f g x : Name → List Tree) → Agree ss f g → Agree ss (λ s. f s ++ x s) (λ s. g s ++ x s)
 agree_more [] f g x h = tt
 agree_more (s ∷ ss) f g x h = (ap (λ ms. ms ++ x s) h.0, agree_more ss f g x h.1)
-
-or_swap : (u v w z : Bool) → ((u || v) || (w || z)) ≡ ((u || w) || (v || z))
-or_swap true v w z = refl
-or_swap false true true z = refl
-or_swap false true false z = refl
-or_swap false false w z = refl
-
--- a match is among the messages before or among those that are added
-shown_on : (a : Pattern) (ss : List Name) (f x : Name → List Tree) → is_shown a ss (λ s. f s ++ x s) ≡ (is_shown a ss f || is_shown a ss x)
-shown_on a [] f x = refl
-shown_on a (s ∷ ss) f x =
-    (λ i. list_any-append (is_match a) (f s) (x s) i || shown_on a ss f x i)
-    ∙ or_swap (list_any (is_match a) (f s)) (list_any (is_match a) (x s)) (is_shown a ss f) (is_shown a ss x)
-
-all_shown_on : (qs : List Pattern) (ss : List Name) (f g x : Name → List Tree) → map (λ a. is_shown a ss f) qs ≡ map (λ a. is_shown a ss g) qs
-    → map (λ a. is_shown a ss (λ s. f s ++ x s)) qs ≡ map (λ a. is_shown a ss (λ s. g s ++ x s)) qs
-all_shown_on [] ss f g x h = refl
-all_shown_on (a ∷ qs) ss f g x h =
-    let same : is_shown a ss f ≡ is_shown a ss g = ap (first_of_all false) h in
-    let one : is_shown a ss (λ s. f s ++ x s) ≡ is_shown a ss (λ s. g s ++ x s) = shown_on a ss f x ∙ ap (λ b. b || is_shown a ss x) same ∙ sym (shown_on a ss g x) in
-    λ i. one i ∷ all_shown_on qs ss f g x (ap others h) i
 
 -- the messages of a process are those before and those that are added
 kept-append : (f : Tree → Bool) (xs ys : List Tree) → filter f (xs ++ ys) ≡ filter f xs ++ filter f ys
@@ -138,24 +105,16 @@ all_split_more ns (s ∷ ss) f g x h = λ i. split_more ns (f s) (g s) (x s) (ap
 abbrev split_kept : KeptMessages → List (List (List Tree))
 split_kept (kept_messages ms) = []
 split_kept (kept_by_process ms) = ms
-split_kept (kept_matches bs) = []
 
 abbrev messages_kept : KeptMessages → List (List Tree)
 messages_kept (kept_messages ms) = ms
 messages_kept (kept_by_process ms) = []
-messages_kept (kept_matches bs) = []
-
-abbrev pub matches_kept : KeptMessages → List Bool
-matches_kept (kept_messages ms) = []
-matches_kept (kept_by_process ms) = []
-matches_kept (kept_matches bs) = bs
 
 -- the same messages more keep what is kept the same
 kept_grows : (q : RunQuestion) (ss : List Name) (f g x : Name → List Tree) → kept_of q ss f ≡ kept_of q ss g → kept_of q ss (λ s. f s ++ x s) ≡ kept_of q ss (λ s. g s ++ x s)
 kept_grows all_messages ss f g x h =
     ap kept_messages (map_agree ss (λ s. f s ++ x s) (λ s. g s ++ x s) (agree_more ss f g x (agree_by_map ss f g (ap messages_kept h))))
 kept_grows by_process ss f g x h = ap kept_by_process (all_split_more all_pids ss f g x (ap split_kept h))
-kept_grows (matches qs) ss f g x h = ap kept_matches (all_shown_on qs ss f g x (ap matches_kept h))
 
 -- ---- alike
 

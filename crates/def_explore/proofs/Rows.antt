@@ -1,5 +1,6 @@
 -- Worked rows, computed: the two listings of a send that races with a command, and what is kept of them for each question.
 use Rattle.std.proofs.Common.{◌≡◌, ℕ, List, [], ◌∷◌, ◌++◌, true, false, codes, refl}
+use Rattle.std.specs.Prelude.{Some, None}
 use Rattle.std.specs.Fmt.{digits}
 use Rattle.def_term.specs.Tree.{Tree, pid}
 use Rattle.def_term.specs.Text.{is_written_bare}
@@ -9,10 +10,11 @@ use Rattle.def_script.specs.Program.{Program, send}
 use Rattle.def_run.specs.Run.{moves}
 use Rattle.def_run.specs.Round.{pass}
 use Rattle.def_run.proofs.Samples.{number, braces, function, entry, program, creates, sets}
-use Rattle.def_explore.specs.Output.{kept_listings, session_texts, closing_line, exploration_text}
-use Rattle.def_explore.specs.Rests.{all_messages, matches, kept_messages, kept_by_process, kept_matches, kept_in, each_process}
+use Rattle.def_explore.specs.Output.{kept_listings, session_texts, closing_line, exploration_text, search_text}
+use Rattle.def_explore.specs.Rests.{all_messages, by_process, kept_messages, kept_by_process, kept_in, each_process}
 use Rattle.def_explore.specs.Alike.{IsStateAlike}
-use Rattle.def_explore.specs.Answers.{RestEntry, IsJournalFrom, AreDistinct, shows}
+use Rattle.def_explore.specs.Answers.{RestEntry, IsJournalFrom, AreDistinct}
+use Rattle.def_explore.specs.Words.{shows, never, sometimes, word_of, Demand, only_always, only_never, only_sometimes, PatternQuestion, refutes}
 
 -- 100 calls go, sends 1 to 101, which isn't there, and ends; the two commands trace its sends
 abbrev race : Program
@@ -69,12 +71,6 @@ of_number n =
     in_tuple (and_pattern (only_term (word "trace")) (and_pattern anything (and_pattern (only_term (word "send_to_non_existing_process"))
     (and_pattern (only_term (number n)) (and_pattern anything no_patterns)))))
 
-matches_kept : kept_in (matches (of_number 1 ∷ of_number 2 ∷ anything ∷ [])) asked race traced ≡ kept_matches (true ∷ false ∷ true ∷ [])
-matches_kept = refl
-
-no_matches_kept : kept_in (matches (of_number 1 ∷ of_number 2 ∷ anything ∷ [])) asked race untraced ≡ kept_matches (false ∷ false ∷ false ∷ [])
-no_matches_kept = refl
-
 -- ---- entries and words
 
 -- the two listings
@@ -89,11 +85,47 @@ late_command : kept_in all_messages asked race (0 ∷ 100 ∷ 100 ∷ 0 ∷ 100 
 late_command = refl
 
 -- so a match is shown sometimes: here, and not here
-shown : shows (of_number 1) asked race traced ≡ true
+shown : shows (of_number 1) (kept_in all_messages asked race traced) ≡ true
 shown = refl
 
-missed : shows (of_number 1) asked race untraced ≡ false
+missed : shows (of_number 1) (kept_in all_messages asked race untraced) ≡ false
 missed = refl
+
+shown_by_process : shows (of_number 1) (kept_in by_process asked race traced) ≡ true
+shown_by_process = refl
+
+shown_sometimes : word_of (of_number 1) entries true ≡ Some (sometimes traced untraced)
+shown_sometimes = refl
+
+-- another number never is
+never_shown : word_of (of_number 2) entries true ≡ Some (never traced)
+never_shown = refl
+
+-- two runs of both kinds are enough; one alone says nothing of those that weren't tried
+shown_before_the_end : word_of (of_number 1) entries false ≡ Some (sometimes traced untraced)
+shown_before_the_end = refl
+
+unknown_before_the_end : word_of (of_number 2) entries false ≡ None
+unknown_before_the_end = refl
+
+-- ---- demands
+
+-- {trace,'_',send_to_non_existing_process,1,'_'} as a term, with a demand
+abbrev question : Demand → PatternQuestion
+question demand = record {
+  term = braces (word "trace" ∷ word "_" ∷ word "send_to_non_existing_process" ∷ number 1 ∷ word "_" ∷ []);
+  pattern = of_number 1;
+  demand = demand;
+}
+
+always_is_refuted : refutes entries true (question only_always) ≡ true
+always_is_refuted = refl
+
+never_is_refuted : refutes entries true (question only_never) ≡ true
+never_is_refuted = refl
+
+sometimes_is_met : refutes entries true (question only_sometimes) ≡ false
+sometimes_is_met = refl
 
 -- ---- text
 
@@ -122,3 +154,8 @@ text_of_nothing = refl
 text_by_process : session_texts with_tracer (kept_listings (kept_by_process ((((number 1 ∷ []) ∷ [] ∷ (number 2 ∷ number 3 ∷ []) ∷ [])) ∷ []))) ≡ codes "== session s tracer t\n1\n2\n3\n"
 unfolding is_written_bare digits
 text_by_process = refl
+
+-- the word of a pattern, and that it isn't as demanded
+text_of_words : search_text with_tracer (question only_always ∷ []) entries 12 true ≡ codes "== session s tracer t\nsometimes: {trace,'_',send_to_non_existing_process,1,'_'}\nrefuted: always\nshown by 0 0 100 100 100\nnot by 100 100 100 0 0\n== explored\ncomplete: 12 states, 2 listings\n"
+unfolding is_written_bare digits
+text_of_words = refl

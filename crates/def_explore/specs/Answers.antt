@@ -1,13 +1,11 @@
--- What an exploration answers: entries with journals, the states, and the word for a pattern (own).
+-- What an exploration answers: entries with journals, and the states (own).
 -- Depends on runs to rest, on what is kept in them, and on picks that lead to the same state.
-use Rattle.std.specs.Prelude.{◌≡◌, ◌<◌, ◌≤◌, ℕ, Bool, true, false, List, [], ◌∷◌, ◌++◌, length}
+use Rattle.std.specs.Prelude.{◌≡◌, ◌<◌, ◌≤◌, ℕ, List, [], ◌∷◌, ◌++◌, length}
 use Rattle.def_term.specs.Names.{Name}
-use Rattle.def_spec.specs.Matching.{Pattern}
 use Rattle.def_script.specs.Program.{Program}
 use Rattle.def_run.specs.Run.{JOURNAL, moves}
-use Rattle.def_run.specs.Listing.{messages}
 use Rattle.def_explore.specs.Lists.{OneOf, EachOf}
-use Rattle.def_explore.specs.Rests.{IsRestAfter, RunQuestion, KeptMessages, kept_in, is_shown}
+use Rattle.def_explore.specs.Rests.{IsRestAfter, RunQuestion, KeptMessages, kept_in}
 use Rattle.def_explore.specs.Alike.{HasStateOf}
 
 -- the journal goes on from the moves of the first picks, and each of its picks moves
@@ -63,31 +61,3 @@ AreDistinct (e ∷ es) = EachOf (λ f. e.kept ≡ f.kept → ⊥) es × AreDisti
 -- whatever picks come after the first ones, one of these journals leads to the state that they lead to
 abbrev pub HaveAllStates : RunQuestion → List Name → Program → List ℕ → List (List ℕ) → Type 0
 HaveAllStates q ss p before js = (more : List ℕ) → HasStateOf q ss p js (before ++ more)
-
--- ---- one pattern
-
--- whether one of the sessions has a message in the run that matches
-abbrev pub shows : Pattern → List Name → Program → List ℕ → Bool
-shows a ss p picks = is_shown a ss (λ s. messages s p picks)
-
--- every run to rest shows a match, with the journal of one; none does; or some do, with the journal of one that does and of one that doesn't
-pub data Word : Type 0 where
-  always : (shown : List ℕ) → Word
-  never : (missed : List ℕ) → Word
-  sometimes : (shown missed : List ℕ) → Word
-
--- a run to rest that goes on from these picks, and does it or doesn't
-pub record IsWitness (a : Pattern) (ss : List Name) (p : Program) (before : List ℕ) (b : Bool) (journal : List ℕ) : Type 0 where
-  pub from : IsJournalFrom p before journal
-  pub rests : IsRestAfter p journal
-  pub does : shows a ss p journal ≡ b
-
--- all do it, or none does
-abbrev pub AllShow : Pattern → List Name → Program → List ℕ → Bool → Type 0
-AllShow a ss p before b = (more : List ℕ) → IsRestAfter p (before ++ more) → shows a ss p (before ++ more) ≡ b
-
--- the word is true
-abbrev pub IsTrueWord : Pattern → List Name → Program → List ℕ → Word → Type 0
-IsTrueWord a ss p before (always shown) = IsWitness a ss p before true shown × AllShow a ss p before true
-IsTrueWord a ss p before (never missed) = IsWitness a ss p before false missed × AllShow a ss p before false
-IsTrueWord a ss p before (sometimes shown missed) = IsWitness a ss p before true shown × IsWitness a ss p before false missed

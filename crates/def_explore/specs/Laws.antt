@@ -1,6 +1,6 @@
 -- What is promised of explorations (own).
 -- Depends on all definitions of an exploration.
-use Rattle.std.specs.Prelude.{◌≡◌, ◌<◌, ◌≤◌, ◌+◌, ℕ, Bool, true, List, ◌∷◌, [], ◌++◌, length}
+use Rattle.std.specs.Prelude.{◌≡◌, ◌<◌, ◌≤◌, ◌+◌, ◌⊎◌, ℕ, Bool, true, false, List, ◌∷◌, [], ◌++◌, length, Some}
 use Rattle.std.specs.List.{Contains}
 use Rattle.def_term.specs.Alive.{PROCESSES}
 use Rattle.def_term.specs.Names.{Name}
@@ -9,10 +9,11 @@ use Rattle.def_script.specs.Program.{Program}
 use Rattle.def_run.specs.Run.{JOURNAL, moves}
 use Rattle.def_run.specs.Round.{pass}
 use Rattle.def_run.specs.Laws.{IsIdleAfter}
-use Rattle.def_explore.specs.Rests.{IsMovingAfter, IsRestAfter, RunQuestion, matches, kept_matches}
+use Rattle.def_explore.specs.Rests.{IsMovingAfter, IsRestAfter, RunQuestion}
 use Rattle.def_explore.specs.Alike.{IsStateAlike, HasStateOf, IsClosed, is_pick_among, AreIndependent, IsReduced}
 use Rattle.def_explore.specs.Lists.{OneOf, EachOf}
-use Rattle.def_explore.specs.Answers.{RestEntry, IsEntryFor, IsNoLonger, AreSound, AreComplete, AreCompleteBelow, AreShortest, HaveAllStates, Word, always, never, sometimes, IsTrueWord, AllShow}
+use Rattle.def_explore.specs.Answers.{RestEntry, IsEntryFor, IsNoLonger, AreSound, AreComplete, AreCompleteBelow, AreShortest, HaveAllStates}
+use Rattle.def_explore.specs.Words.{Word, always, never, sometimes, shows, IsTrueWord, AllShow, word_of, any_word, meets, PatternQuestion, refutes}
 
 -- ---- alike
 
@@ -95,12 +96,29 @@ is_same_word _ _ = ⊥
 -- where all entries that are complete say it alike, all runs do
 abbrev pub EntriesShowAll : Type 0
 EntriesShowAll =
-    (a : Pattern) (ss : List Name) (p : Program) (before : List ℕ) (es : List RestEntry) (b : Bool) →
-    AreComplete (matches (a ∷ [])) ss p before es → EachOf (λ e. e.kept ≡ kept_matches (b ∷ [])) es → AllShow a ss p before b
+    (q : RunQuestion) (a : Pattern) (ss : List Name) (p : Program) (before : List ℕ) (es : List RestEntry) (b : Bool) →
+    AreComplete q ss p before es → EachOf (λ e. shows a e.kept ≡ b) es → AllShow q a ss p before b
+
+-- the word that sound entries give is true; where all states were tried, they are complete
+abbrev pub WordOfEntriesIsTrue : Type 0
+WordOfEntriesIsTrue =
+    (q : RunQuestion) (a : Pattern) (ss : List Name) (p : Program) (before : List ℕ) (es : List RestEntry) (whole : Bool) (word : Word) →
+    AreSound q ss p before es → (whole ≡ true → AreComplete q ss p before es) → word_of a es whole ≡ Some word → IsTrueWord q a ss p before word
+
+-- no true word is as demanded, where they refute the demand
+abbrev pub NoTrueWordMeetsWhatIsRefuted : Type 0
+NoTrueWordMeetsWhatIsRefuted =
+    (q : RunQuestion) (a : PatternQuestion) (ss : List Name) (p : Program) (before : List ℕ) (es : List RestEntry) (whole : Bool) (word : Word) →
+    AreSound q ss p before es → (whole ≡ true → AreComplete q ss p before es) → refutes es whole a ≡ true → IsTrueWord q a.pattern ss p before word → meets a.demand word ≡ false
+
+-- where all states were tried and the demand isn't refuted, the entries' word is as demanded
+abbrev pub WordMeetsWhatIsNotRefuted : Type 0
+WordMeetsWhatIsNotRefuted =
+    (a : PatternQuestion) (es : List RestEntry) → refutes es true a ≡ false → (a.demand ≡ any_word) ⊎ ((word : Word) × (word_of a.pattern es true ≡ Some word) × (meets a.demand word ≡ true))
 
 -- of a pattern one word is true at most
 abbrev pub WordIsOne : Type 0
-WordIsOne = (a : Pattern) (ss : List Name) (p : Program) (before : List ℕ) (v w : Word) → IsTrueWord a ss p before v → IsTrueWord a ss p before w → is_same_word v w
+WordIsOne = (q : RunQuestion) (a : Pattern) (ss : List Name) (p : Program) (before : List ℕ) (v w : Word) → IsTrueWord q a ss p before v → IsTrueWord q a ss p before w → is_same_word v w
 
 -- ---- picks that can go first
 

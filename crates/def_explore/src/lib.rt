@@ -9,7 +9,8 @@ ghost use Rattle.def_explore.specs.Laws.{AlikeGoesOn, AlikeAreIdleAlike, AlikeHa
 ghost use Rattle.def_explore.specs.Laws.{IdleIsAlike, MovesAreAlike, MovesAreOfAPass};
 ghost use Rattle.def_explore.specs.Laws.{ClosedJournalsHaveAll, ClosedJournalsAreComplete, ClosedJournalsAreShortest};
 ghost use Rattle.def_explore.specs.Laws.{EntriesAreDetermined};
-ghost use Rattle.def_explore.specs.Laws.{WordIsOne, EntriesShowAll};
+ghost use Rattle.def_explore.specs.Laws.{WordIsOne, EntriesShowAll, WordOfEntriesIsTrue};
+ghost use Rattle.def_explore.specs.Laws.{NoTrueWordMeetsWhatIsRefuted, WordMeetsWhatIsNotRefuted};
 ghost use Rattle.def_explore.specs.Laws.{IndependentPicksGoFirst, ReducedJournalsHaveRests, ReducedJournalsAreComplete};
 ghost use Rattle.def_explore.specs.Settings.{CommandsDetermineSettings};
 
@@ -41,10 +42,19 @@ pub fn entries_are_determined()
     ensures { EntriesAreDetermined }
 {}
 
-/// Of a pattern one word is true at most. Where all entries say it alike, all runs do.
+/// Of a pattern one word is true at most. Where all entries say it alike, all runs do. The word that entries give is
+/// true.
 pub fn a_pattern_has_one_word()
     ensures one { WordIsOne }
     ensures all { EntriesShowAll }
+    ensures by_entries { WordOfEntriesIsTrue }
+{}
+
+/// Where entries refute a demand, no true word is as demanded. Where they don't, and all states were tried, their word
+/// is.
+pub fn a_demand_is_met_or_refuted()
+    ensures refuted { NoTrueWordMeetsWhatIsRefuted }
+    ensures met { WordMeetsWhatIsNotRefuted }
 {}
 
 /// A run to rest leads to the same state as one that begins with a pick which is independent of all others, so that it

@@ -1,1 +1,2 @@
 pub mod AnswerViews
+pub mod SearchAnswers

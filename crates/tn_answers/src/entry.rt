@@ -29,7 +29,7 @@ fn put_pick<B: Allocator>(pick: u32, out: &mut Vec<u8, B>) -> Result<(), AllocEr
 }
 
 /// Appends a space and a number for each pick.
-fn put_picks<B: Allocator>(picks: &[u32], out: &mut Vec<u8, B>) -> Result<(), AllocError>
+pub(crate) fn put_picks<B: Allocator>(picks: &[u32], out: &mut Vec<u8, B>) -> Result<(), AllocError>
     ensures { OnOk result (out.new.items ≡ out.old.items ++ spaced_picks picks.now) }
 {
     for pick in picks {
@@ -58,7 +58,7 @@ fn put_entry_line<B: Allocator>(
 }
 
 /// Appends the line `== session NAME tracer TRACER`.
-fn put_header<A: Allocator, B: Allocator>(
+pub(crate) fn put_header<A: Allocator, B: Allocator>(
     session: &SessionName<A>,
     out: &mut Vec<u8, B>,
 ) -> Result<(), AllocError>

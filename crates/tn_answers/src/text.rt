@@ -1,15 +1,18 @@
 // The text of what an exploration answers.
-ghost use Rattle.std.specs.Prelude.{◌≡◌, ◌++◌, ◌+◌, ◌<◌, IfOk, OnOk, Some, length, map, slice_get};
+ghost use Rattle.std.specs.Prelude.{◌≡◌, ◌++◌, ◌+◌, ◌<◌, IfOk, OnOk, Some, codes, flat_map, length, map, slice_get};
 ghost use Rattle.def_explore.specs.Answers.{RestEntry};
-ghost use Rattle.def_explore.specs.Output.{rest_entry_text, rest_entry_texts, exploration_text};
+ghost use Rattle.def_explore.specs.Output.{closing_line, exploration_text, rest_entry_text, rest_entry_texts};
 ghost use Rattle.tn_explore.specs.Searches.{answer_entries};
 ghost use Rattle.tn_messages.specs.MessageViews.{kept_seen};
-ghost use Rattle.tn_answers.specs.AnswerViews.{session_name_seen};
+ghost use Rattle.tn_answers.specs.AnswerViews.{session_header, session_name_seen};
+ghost use Rattle.tn_answers.specs.SearchAnswers.{IsSearchAnswer, IsWordsAnswer};
 
-use crate::entry::{SessionName, put_entry};
+use crate::entry::{SessionName, put_entry, put_header};
 use crate::last_line::put_closing;
+use crate::words::put_patterns;
 use std::alloc::{AllocError, Allocator};
 use tn_explore::{Answers, Exploration};
+use tn_message_pattern::PatternQuestion;
 use tn_messages::KeptListings;
 
 /// Appends the entry at a place of so many.
@@ -47,12 +50,22 @@ fn put_entries<A: Allocator, B: Allocator>(
     Ok(())
 }
 
+/// Appends what was explored.
+fn put_explored<A: Allocator, B: Allocator>(
+    exploration: &Exploration<A, KeptListings<A>>,
+    out: &mut Vec<u8, B>,
+) -> Result<(), AllocError>
+    ensures { let es = answer_entries kept_seen exploration.now.answers.entries in
+        OnOk result (out.new.items ≡ out.old.items ++ codes "== explored\n" ++
+        closing_line exploration.now.states (length es) exploration.now.is_complete) }
+{
+    out.extend_from_slice(b"== explored\n")?;
+    let count = exploration.answers.len();
+    put_closing(exploration.states, count, exploration.is_complete, out)
+}
+
 /// The text of what an exploration of these sessions answers.
-///
-/// # Errors
-///
-/// AllocError where memory was refused.
-pub fn exploration_text<A: Allocator + Copy>(
+fn exploration_text<A: Allocator + Copy>(
     alloc: A,
     sessions: &[SessionName<A>],
     exploration: &Exploration<A, KeptListings<A>>,
@@ -63,13 +76,64 @@ pub fn exploration_text<A: Allocator + Copy>(
 {
     let mut text = Vec::new(alloc);
     put_entries(sessions, &exploration.answers, &mut text)?;
-    text.extend_from_slice(b"== explored\n")?;
-    let count = exploration.answers.len();
-    put_closing(
-        exploration.states,
-        count,
-        exploration.is_complete,
-        &mut text,
-    )?;
+    put_explored(exploration, &mut text)?;
     Ok(text)
+}
+
+/// Appends the header of each session.
+fn put_headers<A: Allocator, B: Allocator>(
+    sessions: &[SessionName<A>],
+    out: &mut Vec<u8, B>,
+) -> Result<(), AllocError>
+    ensures { OnOk result (out.new.items ≡ out.old.items ++ flat_map session_header sessions.now) }
+{
+    for session in sessions {
+        put_header(session, out)?;
+    }
+    Ok(())
+}
+
+/// What a search answers: its text, and whether what is demanded of a pattern is refuted.
+#[derive(Drop)]
+pub struct SearchAnswer<A: Allocator> {
+    pub text: Vec<u8, A>,
+    pub is_refuted: bool,
+}
+
+/// What an exploration of these sessions answers about patterns.
+fn words_answer<A: Allocator + Copy, P: Allocator>(
+    alloc: A,
+    sessions: &[SessionName<A>],
+    questions: &[PatternQuestion<P>],
+    exploration: &Exploration<A, KeptListings<A>>,
+) -> Result<SearchAnswer<A>, AllocError>
+    ensures { IfOk result (IsWordsAnswer sessions.now questions.now exploration.now) }
+{
+    let mut text = Vec::new(alloc);
+    put_headers(sessions, &mut text)?;
+    let is_refuted = put_patterns(alloc, questions, exploration, &mut text)?;
+    put_explored(exploration, &mut text)?;
+    Ok(SearchAnswer { text, is_refuted })
+}
+
+/// What an exploration of these sessions answers: its listings, or the words for patterns where there are any.
+///
+/// # Errors
+///
+/// AllocError where memory was refused.
+pub fn search_answer<A: Allocator + Copy, P: Allocator>(
+    alloc: A,
+    sessions: &[SessionName<A>],
+    questions: &[PatternQuestion<P>],
+    exploration: &Exploration<A, KeptListings<A>>,
+) -> Result<SearchAnswer<A>, AllocError>
+    ensures { IfOk result (IsSearchAnswer sessions.now questions.now exploration.now) }
+{
+    if questions.is_empty() {
+        return Ok(SearchAnswer {
+            text: exploration_text(alloc, sessions, exploration)?,
+            is_refuted: false,
+        });
+    }
+    words_answer(alloc, sessions, questions, exploration)
 }

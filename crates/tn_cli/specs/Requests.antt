@@ -177,13 +177,17 @@ first_moves m = if takes_control_first m then codes "0!" else unwrap_or (argumen
 abbrev pub order_named : List ℕ → ListingOrder
 order_named order = if bytes_eq order (codes "total") then Total else ByProcess
 
--- the script, the first moves, what `--order` and `--session` name, and the number of `--max-states`
+-- the script, the first moves, what `--order` and `--session` name, the patterns, and the number of `--max-states`
 abbrev pub IsExplorationOf : ArgMatches → ExploreArgs → Type 0
 IsExplorationOf m x =
     IsSourceNamed (argument m (codes "script")) x.script
     × (x.before.now ≡ first_moves m)
     × (x.order ≡ order_named (unwrap_or (argument m (codes "order")) (codes "process")))
     × IsTextOf (option_map session_named (argument m (codes "session"))) x.session
+    × (words_of x.shows.now ≡ texts_given m (codes "shows"))
+    × (words_of x.always.now ≡ texts_given m (codes "always"))
+    × (words_of x.never.now ≡ texts_given m (codes "never"))
+    × (words_of x.sometimes.now ≡ texts_given m (codes "sometimes"))
     × IsGiven 1 4294967295 (argument m (codes "max-states")) x.max_states
 
 -- a source that is given is the one that the text names

@@ -18,14 +18,16 @@ use clap::ArgMatches;
 use clap::error::ErrorKind;
 use format::format_of;
 use output_bound::most_of;
-use request::{BadNumber, request_of};
+use request::request_of;
 use std::alloc::{AllocError, Global};
 use std::io;
 use std::process::ExitCode;
 use std::rt::{Env, Files};
 use std::sync::Wait;
 use std::thread::Threads;
-use tn_command::{FAULT, LastError, OutputForm, REFUSED, arguments, picks_of, report, run_fault};
+use tn_command::{
+    FAULT, LastError, OutputForm, REFUSED, arguments, picks_of, refuse_value, report, run_fault,
+};
 use tn_line::command;
 use tn_notice::{CommandFault, Notice, escape_controls, print_fault, print_notice};
 use tn_request::{Request, TextSource, answer_request, expectation_of, expected_texts};
@@ -73,30 +75,6 @@ fn run_request<R: Input + Files + Print + Eprint + AllocGlobal + Threads + Wait 
     answer_request(rt, request, &text, form, &expectation)
 }
 
-/// Says that a value is no number, as other wrong values are refused.
-fn refuse_number<R: Eprint + AllocGlobal>(rt: &R, bad: BadNumber<'_>) -> ExitCode
-    ensures { IsExplorationStatus (exit_status result) }
-{
-    let BadNumber {
-        option,
-        text,
-        reason,
-    } = bad;
-    let Ok(plain) = escape_controls(rt.alloc(), text) else {
-        return report(rt, CommandFault::Memory);
-    };
-    let text = str::from_utf8(&plain).unwrap_or("");
-    print_notice(
-        rt,
-        Notice::NoValue {
-            text,
-            option,
-            reason,
-        },
-    );
-    ExitCode::from(REFUSED)
-}
-
 /// Does what was read of the words.
 fn run_command<R: Input + Files + Print + Eprint + AllocGlobal + Threads + Wait + Sync>(
     rt: &R,
@@ -109,12 +87,12 @@ fn run_command<R: Input + Files + Print + Eprint + AllocGlobal + Threads + Wait 
             format: format_of(matches),
             most,
         },
-        Err(bad) => return refuse_number(rt, bad),
+        Err(bad) => return refuse_value(rt, bad),
     };
     match request_of(matches) {
         Ok(Some(request)) => run_request(rt, &request, form),
         Ok(None) => ExitCode::from(REFUSED),
-        Err(bad) => refuse_number(rt, bad),
+        Err(bad) => refuse_value(rt, bad),
     }
 }
 

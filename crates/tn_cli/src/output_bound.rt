@@ -3,12 +3,12 @@ ghost use Rattle.std.specs.Prelude.{OkIff, IfErr, IfOk, codes};
 ghost use Rattle.tn_cli.specs.Bounds.{IsBound, IsBoundOf, IsWithoutBound, bound_given};
 ghost use Rattle.tn_cli.specs.Requests.{argument};
 
-use crate::request::{BadNumber, number};
+use crate::request::number;
 use clap::ArgMatches;
-use tn_command::MAX_OUTPUT;
+use tn_command::{BadValue, MAX_OUTPUT};
 
 /// How many bytes the output of a command may have, by what was read of its words.
-fn most_given<'a>(given: &ArgMatches<'a>) -> Result<usize, BadNumber<'a>>
+fn most_given<'a>(given: &ArgMatches<'a>) -> Result<usize, BadValue<'a>>
     ensures { OkIff result (IsBound (argument given.now (codes "max-output")))
         (bound_given (argument given.now (codes "max-output"))) }
 {
@@ -20,7 +20,7 @@ fn most_given<'a>(given: &ArgMatches<'a>) -> Result<usize, BadNumber<'a>>
 }
 
 /// How many bytes the output may have that the command line asks for.
-pub fn most_of<'a>(matches: &ArgMatches<'a>) -> Result<usize, BadNumber<'a>>
+pub fn most_of<'a>(matches: &ArgMatches<'a>) -> Result<usize, BadValue<'a>>
     ensures most { IfOk result (IsBoundOf matches.now) }
     ensures refused { IfErr result (λ e. IsWithoutBound matches.now) }
 {

@@ -10,7 +10,7 @@ ghost use Rattle.tn_cli.specs.Requests.{IsExpectationOf, IsListingOf, IsSourceOr
 
 use crate::value::{process_number, session_name};
 use clap::ArgMatches;
-use tn_command::{Source, plain_number, source_of};
+use tn_command::{BadValue, Source, plain_number, source_of};
 use tn_explain::Filter;
 use tn_picture::PictureFormat;
 use tn_request::{
@@ -20,21 +20,11 @@ use tn_request::{
 use tn_search::ListingOrder;
 use tn_spec::Dialect;
 
-/// A value that isn't a number that the option takes.
-#[derive(Clone, Copy)]
-pub struct BadNumber<'a> {
-    /// The option, with the name of its value.
-    pub option: &'static str,
-    pub text: &'a str,
-    /// Why it is none, or what is expected.
-    pub reason: &'static str,
-}
-
 /// A text that is no number for an option.
-fn not_number<'a>(option: &'static str, text: &'a str) -> BadNumber<'a>
+fn not_number<'a>(option: &'static str, text: &'a str) -> BadValue<'a>
     ensures { (result.option ≡ option.entry) × (result.text ≡ text.entry) }
 {
-    BadNumber {
+    BadValue {
         option,
         text,
         reason: "invalid digit found in string",
@@ -48,7 +38,7 @@ pub(crate) fn number<'a>(
     option: &'static str,
     least: u32,
     most: u32,
-) -> Result<u32, BadNumber<'a>>
+) -> Result<u32, BadValue<'a>>
     ensures { OkIff result (IsBetween least most (argument args.now id.now)) (number_given (argument args.now id.now)) }
 {
     let Some(text) = args.get_str(id) else {
@@ -65,7 +55,7 @@ fn number_or_none<'a>(
     args: &ArgMatches<'a>,
     id: &str,
     option: &'static str,
-) -> Result<Option<u64>, BadNumber<'a>>
+) -> Result<Option<u64>, BadValue<'a>>
     ensures { IsNumberOrNone (argument args.now id.now) result }
 {
     let Some(text) = args.get_str(id) else {
@@ -78,14 +68,14 @@ fn number_or_none<'a>(
 }
 
 /// The process that `spec` is asked for, by its number or its pid.
-fn own_process<'a>(matches: &ArgMatches<'a>) -> Result<u32, BadNumber<'a>>
+fn own_process<'a>(matches: &ArgMatches<'a>) -> Result<u32, BadValue<'a>>
     ensures given { IfOk result (NamesProcess (unwrap_or (argument matches.now (codes "me")) [])) }
     ensures refused { IfErr result (λ e. NamesNoProcess (unwrap_or (argument matches.now (codes "me")) [])) }
 {
     let text = matches.get_str("me").unwrap_or("");
     match process_number(text) {
         Some(number) => Ok(number),
-        None => Err(BadNumber {
+        None => Err(BadValue {
             option: "--me <N>",
             text,
             reason: "a number or a pid <0.N.0> is expected",
@@ -131,7 +121,7 @@ fn control_first(matches: &ArgMatches<'_>) -> bool
 }
 
 /// Which run is explained or drawn.
-fn run_source<'a>(matches: &ArgMatches<'a>) -> Result<RunSource<'a>, BadNumber<'a>>
+fn run_source<'a>(matches: &ArgMatches<'a>) -> Result<RunSource<'a>, BadValue<'a>>
     ensures run { IfOk result (IsRunOf matches.now) }
     ensures refused { IfErr result (λ e. LacksLimit matches.now) }
 {
@@ -213,7 +203,7 @@ fn replay<'s, 'a: 's>(matches: &'s ArgMatches<'a>) -> Request<'s>
 }
 
 /// What `explain` asks for.
-fn explain<'s, 'a: 's>(matches: &'s ArgMatches<'a>) -> Result<Request<'s>, BadNumber<'s>>
+fn explain<'s, 'a: 's>(matches: &'s ArgMatches<'a>) -> Result<Request<'s>, BadValue<'s>>
     ensures asks { IfOk result (Asks (codes "explain") matches.now) }
     ensures refused { IfErr result (λ e. LacksNumber (codes "explain") matches.now) }
 {
@@ -243,7 +233,7 @@ fn format<'a>(matches: &ArgMatches<'a>) -> PictureFormat
 }
 
 /// What `draw` asks for.
-fn draw<'s, 'a: 's>(matches: &'s ArgMatches<'a>) -> Result<Request<'s>, BadNumber<'s>>
+fn draw<'s, 'a: 's>(matches: &'s ArgMatches<'a>) -> Result<Request<'s>, BadValue<'s>>
     ensures asks { IfOk result (Asks (codes "draw") matches.now) }
     ensures refused { IfErr result (λ e. LacksNumber (codes "draw") matches.now) }
 {
@@ -257,7 +247,7 @@ fn draw<'s, 'a: 's>(matches: &'s ArgMatches<'a>) -> Result<Request<'s>, BadNumbe
 }
 
 /// What `run` asks for: a round after the control list.
-fn run<'s, 'a: 's>(matches: &'s ArgMatches<'a>) -> Result<Request<'s>, BadNumber<'s>>
+fn run<'s, 'a: 's>(matches: &'s ArgMatches<'a>) -> Result<Request<'s>, BadValue<'s>>
     ensures asks { IfOk result (Asks (codes "run") matches.now) }
     ensures refused { IfErr result (λ e. LacksNumber (codes "run") matches.now) }
 {
@@ -272,7 +262,7 @@ fn run<'s, 'a: 's>(matches: &'s ArgMatches<'a>) -> Result<Request<'s>, BadNumber
 }
 
 /// What `round` asks for.
-fn round<'s, 'a: 's>(matches: &'s ArgMatches<'a>) -> Result<Request<'s>, BadNumber<'s>>
+fn round<'s, 'a: 's>(matches: &'s ArgMatches<'a>) -> Result<Request<'s>, BadValue<'s>>
     ensures asks { IfOk result (Asks (codes "round") matches.now) }
     ensures refused { IfErr result (λ e. LacksNumber (codes "round") matches.now) }
 {
@@ -287,7 +277,7 @@ fn round<'s, 'a: 's>(matches: &'s ArgMatches<'a>) -> Result<Request<'s>, BadNumb
 }
 
 /// What `workers` asks for.
-fn workers<'s, 'a: 's>(matches: &'s ArgMatches<'a>) -> Result<Request<'s>, BadNumber<'s>>
+fn workers<'s, 'a: 's>(matches: &'s ArgMatches<'a>) -> Result<Request<'s>, BadValue<'s>>
     ensures asks { IfOk result (Asks (codes "workers") matches.now) }
     ensures refused { IfErr result (λ e. LacksNumber (codes "workers") matches.now) }
 {
@@ -305,7 +295,7 @@ fn workers<'s, 'a: 's>(matches: &'s ArgMatches<'a>) -> Result<Request<'s>, BadNu
 }
 
 /// What `spec` asks for.
-fn spec<'s, 'a: 's>(matches: &'s ArgMatches<'a>) -> Result<Request<'s>, BadNumber<'s>>
+fn spec<'s, 'a: 's>(matches: &'s ArgMatches<'a>) -> Result<Request<'s>, BadValue<'s>>
     ensures asks { IfOk result (Asks (codes "spec") matches.now) }
     ensures refused { IfErr result (λ e. LacksNumber (codes "spec") matches.now) }
 {
@@ -353,7 +343,7 @@ fn listing_order(order: &str) -> ListingOrder
 }
 
 /// What `explore` asks for.
-fn exploration<'s, 'a: 's>(matches: &'s ArgMatches<'a>) -> Result<Request<'s>, BadNumber<'s>>
+fn exploration<'s, 'a: 's>(matches: &'s ArgMatches<'a>) -> Result<Request<'s>, BadValue<'s>>
     ensures asks { IfOk result (Asks (codes "explore") matches.now) }
     ensures refused { IfErr result (λ e. LacksNumber (codes "explore") matches.now) }
 {
@@ -363,6 +353,10 @@ fn exploration<'s, 'a: 's>(matches: &'s ArgMatches<'a>) -> Result<Request<'s>, B
         before: first_moves(matches),
         order: listing_order(matches.get_str("order").unwrap_or("process")),
         session: matches.get_str("session").map(session_name),
+        shows: texts(matches, "shows"),
+        always: texts(matches, "always"),
+        never: texts(matches, "never"),
+        sometimes: texts(matches, "sometimes"),
         max_states,
     }))
 }
@@ -370,7 +364,7 @@ fn exploration<'s, 'a: 's>(matches: &'s ArgMatches<'a>) -> Result<Request<'s>, B
 /// What the command line asks for, by the subcommand that it names; None where it names none.
 pub fn request_of<'s, 'a: 's>(
     matches: &'s ArgMatches<'a>,
-) -> Result<Option<Request<'s>>, BadNumber<'s>>
+) -> Result<Option<Request<'s>>, BadValue<'s>>
     ensures asks { IfOk result (λ o. IfSome o (IsAskedBy matches.now)) }
     ensures none { IfOk result (λ o. IfNone o (NamesNoCommand matches.now)) }
     ensures refused { IfErr result (λ e. IsWithoutNumber matches.now) }

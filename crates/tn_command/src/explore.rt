@@ -3,7 +3,7 @@ ghost use Rattle.std.specs.Prelude.{◌≡◌};
 ghost use Rattle.std.specs.Process.{exit_status};
 ghost use Rattle.tn_exploration.specs.Requests.{explore_by};
 ghost use Rattle.tn_command.specs.Explorations.{IsExplorationPrinted, IsExplorationStatus};
-ghost use Rattle.tn_command.specs.Explorations.{is_incomplete, status_after_search};
+ghost use Rattle.tn_command.specs.Explorations.{search_status, status_after_search};
 ghost use Rattle.tn_command.specs.JobForms.{job_within};
 
 use crate::command::{Command, schedule_text};
@@ -12,6 +12,7 @@ use crate::last_error::LastError;
 use crate::moves_line::tell_run_refusal;
 use crate::remarks::{forms_notice, print_notices};
 use crate::source::{Source, open};
+use crate::status::UNMET;
 use crate::stderr::{NamedText, run_fault};
 use crate::within_bytes::WithinBytes;
 use std::alloc::Global;
@@ -46,7 +47,7 @@ impl Command for ExploreRequest<'_> {
         script: NamedText<'_>,
     ) {
         match outcome {
-            ExploreOutcome::Complete | ExploreOutcome::Incomplete => {
+            ExploreOutcome::Complete | ExploreOutcome::Incomplete | ExploreOutcome::Unmet => {
                 print_notices(rt, forms_notice(script.bytes));
             }
             ExploreOutcome::NoSession => {
@@ -70,27 +71,31 @@ impl Command for ExploreRequest<'_> {
     }
 }
 
-/// Whether an exploration was written that didn't try all states.
-fn is_incomplete<F>(answer: &Result<ExploreOutcome, F>) -> bool
-    ensures { result ≡ is_incomplete answer.now }
+/// The status of an exploration that was written, where it is another than that of an answer.
+fn search_status<F>(answer: &Result<ExploreOutcome, F>) -> Option<u8>
+    ensures { result ≡ search_status answer.now }
 {
-    matches!(answer, Ok(ExploreOutcome::Incomplete))
+    match answer {
+        Ok(ExploreOutcome::Incomplete) => Some(INCOMPLETE),
+        Ok(ExploreOutcome::Unmet) => Some(UNMET),
+        Ok(_) | Err(_) => None,
+    }
 }
 
 /// The status of what ended with a status so far.
-fn status_after_search(status: ExitCode, incomplete: bool) -> ExitCode
-    ensures { exit_status result ≡ status_after_search (exit_status status) incomplete }
+fn status_after_search(status: ExitCode, search: Option<u8>) -> ExitCode
+    ensures { exit_status result ≡ status_after_search (exit_status status) search }
 {
-    if incomplete {
-        ExitCode::from(INCOMPLETE)
-    } else {
-        status
+    match search {
+        Some(status) => ExitCode::from(status),
+        None => status,
     }
 }
 
 /// Explores all schedules of the script that a reader holds, and prints the end: the writer, which is given back, has
 /// gained what the job writes, where that has at most so many bytes, or a front of it where a write failed. The
-/// status is that of the answer, or 4 where not all states were tried.
+/// status is that of the answer, 1 where what is demanded of a pattern is refuted, or 4 where not all states were
+/// tried.
 pub fn print_exploration_over<R: Eprint + AllocGlobal, S: Read + Drop, W: Write + Drop>(
     rt: &R,
     request: &ExploreRequest<'_>,
@@ -110,10 +115,10 @@ pub fn print_exploration_over<R: Eprint + AllocGlobal, S: Read + Drop, W: Write 
     let mut script = script_of(rt.alloc(), name, reader);
     let mut writer = Watched::of(LastError::of(writer));
     let end = perform_over(rt.alloc(), job, &mut script.reader, &mut writer);
-    let incomplete = is_incomplete(&end.answer);
+    let search = search_status(&end.answer);
     let (writer, unwritten) = writer.into_inner().into_parts();
     let status = print_end(rt, job, end, script, unwritten, false);
-    (status_after_search(status, incomplete), writer)
+    (status_after_search(status, search), writer)
 }
 
 /// Does so with a script of this name, and writes to standard output.

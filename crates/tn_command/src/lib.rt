@@ -2,10 +2,11 @@
 //!
 //! Depends on tn_run, tn_replay, tn_explain, tn_picture, tn_exploration, tn_formats and tn_notice. Promises that each
 //! job is done as its crate says, in its format and within its bound, and that the status is its answer's, or 1 for an
-//! unmet expectation or a flaw under `--strict`, or 4 for an exploration that isn't complete; and which notice there is
-//! of a fault, of an outcome and of refused moves.
+//! unmet expectation, a refuted demand or a flaw under `--strict`, or 4 for an exploration that isn't complete; and
+//! which notice there is of a fault, of an outcome and of refused moves.
 #![tactic(auto)]
 
+mod bad_value;
 mod command;
 mod draw;
 mod expectation_file;
@@ -35,6 +36,7 @@ mod words;
 mod workers;
 mod workers_form;
 
+pub use bad_value::{BadValue, refuse_value};
 pub use command::Command;
 pub use expectation_file::expected_text;
 pub use explore::{INCOMPLETE, explore_script, print_exploration_over};

@@ -1,30 +1,35 @@
 -- What is written of a search.
 use Rattle.std.proofs.Common.{◌≡◌, ◌∙◌, ℕ, ◌+◌, ◌<◌, ◌≤◌, ◌&&◌, Bool, true, false, List, [], ◌∷◌, ◌++◌, length, map, take, get_or, refl, sym, ap, subst, append-nil, append_assoc, arith}
 use Rattle.std.proofs.lemmas.List.{take_more, take_all, map-append}
+use Rattle.std.specs.Prelude.{◌||◌}
+use Rattle.std.specs.List.{list_any}
 use Rattle.def_term.specs.Names.{Name}
 use Rattle.def_script.specs.Program.{Program}
 use Rattle.def_script.specs.Script.{creations}
 use Rattle.def_run.specs.Round.{is_empty}
 use Rattle.def_explore.specs.Answers.{RestEntry}
-use Rattle.def_explore.specs.Output.{exploration_text}
+use Rattle.def_explore.specs.Output.{search_text}
+use Rattle.def_explore.specs.Words.{refutes}
 use Rattle.tn_explore.specs.Searches.{Explores}
 use Rattle.tn_moves.specs.Schedules.{schedule_seen, AreMovesOf}
 use Rattle.tn_search.specs.Sessions.{elements_at}
 use Rattle.tn_search.specs.States.{query_of, is_by_process}
-use Rattle.tn_exploration.specs.Requests.{IsSearchText, SearchText, AreSearchTexts, AddsSearch, AddsSearches, groups_of, IsExplorationFrom, IsExploration}
+use Rattle.tn_exploration.specs.Requests.{questions_of, IsSearchText, AreSearchTexts, AddsSearch, AddsSearches, groups_of, IsExplorationFrom, IsExploration}
 use Rattle.tn_exploration.specs.declared.request.ExploreRequest.{ExploreRequest}
 use Rattle.tn_exploration.specs.declared.request.ExploreOutcome.{ExploreOutcome}
-use Rattle.tn_exploration.specs.declared.request.ExploreOutcome.TheVariants.{Complete, Incomplete, NoSession, Refused}
+use Rattle.tn_exploration.specs.declared.request.ExploreOutcome.TheVariants.{Complete, Incomplete, Unmet, NoSession, Refused}
+use Rattle.tn_exploration.specs.declared.searches.SearchEnd.{SearchEnd}
 
 -- the text of a search about the sessions at these places
-pub search_text : (q : ExploreRequest) (p : Program) (before places : List ℕ) (names : List (Name × Name)) (es : List RestEntry) (states : ℕ) (whole : Bool) (text : List ℕ)
-    → names ≡ elements_at places (creations p.commands) → Explores (query_of (is_by_process q.order) p before places) es q.max_states states whole → text ≡ exploration_text names es states whole
-    → IsSearchText q p before places text whole
-search_text q p before places names es states whole text named searches written = record {
+pub is_search_text : (q : ExploreRequest) (p : Program) (before places : List ℕ) (names : List (Name × Name)) (es : List RestEntry) (states : ℕ) (whole refuted : Bool) (text : List ℕ)
+    → names ≡ elements_at places (creations p.commands) → Explores (query_of (is_by_process q.order) p before places) es q.max_states states whole → text ≡ search_text names (questions_of q) es states whole
+    → refuted ≡ list_any (refutes es whole) (questions_of q) → IsSearchText q p before places text whole refuted
+is_search_text q p before places names es states whole refuted text named searches written demands = record {
   entries = es;
   states = states;
   search = searches;
-  written = written ∙ ap (λ ss. exploration_text ss es states whole) named;
+  written = written ∙ ap (λ ss. search_text ss (questions_of q) es states whole) named;
+  demands = demands;
 }
 
 pub no_places : (places : List ℕ) → length places ≡ 0 → is_empty places ≡ true
@@ -43,58 +48,79 @@ module _ (q : ExploreRequest) (p : Program) (before : List ℕ) where
   and_more true y z w is = ap (λ b. b && z) is
   and_more false y z w is = ap (λ b. b && z) is
 
-  texts_more : (groups : List (List ℕ)) (places text a : List ℕ) (w wa : Bool) → AreSearchTexts q p before groups text w → IsSearchText q p before places a wa
-      → AreSearchTexts q p before (groups ++ places ∷ []) (text ++ a) (w && wa)
-  texts_more [] places text a w wa (none, all) one =
-      (record { text = a; whole = wa }, record { text = []; whole = true }, one, (refl, refl), ap (λ t. t ++ a) none ∙ sym (append-nil a), last_and w wa all)
-  texts_more (g ∷ gs) places text a w wa (x, y, first, others, is, both) one = (
+  last_or : (r ra : Bool) → r ≡ false → (r || ra) ≡ (ra || false)
+  last_or r true is = ap (λ b. b || true) is
+  last_or r false is = ap (λ b. b || false) is
+
+  or_more : (x y z r : Bool) → r ≡ (x || y) → (r || z) ≡ (x || (y || z))
+  or_more true y z r is = ap (λ b. b || z) is
+  or_more false y z r is = ap (λ b. b || z) is
+
+  texts_more : (groups : List (List ℕ)) (places text a : List ℕ) (w wa r ra : Bool) → AreSearchTexts q p before groups text w r → IsSearchText q p before places a wa ra
+      → AreSearchTexts q p before (groups ++ places ∷ []) (text ++ a) (w && wa) (r || ra)
+  texts_more [] places text a w wa r ra (none, all, met) one = (
+    record { text = a; whole = wa; refuted = ra },
+    record { text = []; whole = true; refuted = false },
+    one,
+    (refl, refl, refl),
+    ap (λ t. t ++ a) none ∙ sym (append-nil a),
+    last_and w wa all,
+    last_or r ra met,
+  )
+  texts_more (g ∷ gs) places text a w wa r ra (x, y, first, others, is, both, either) one = (
     x,
-    record { text = y.text ++ a; whole = y.whole && wa },
+    record { text = y.text ++ a; whole = y.whole && wa; refuted = y.refuted || ra },
     first,
-    texts_more gs places y.text a y.whole wa others one,
+    texts_more gs places y.text a y.whole wa y.refuted ra others one,
     ap (λ t. t ++ a) is ∙ append_assoc x.text y.text a,
     and_more x.whole y.whole wa w both,
+    or_more x.refuted y.refuted ra r either,
   )
 
   -- no text yet
-  pub no_searches : (old : List ℕ) → AddsSearches q p before [] old old true
-  no_searches old = ([], (refl, refl), sym (append-nil old))
+  pub no_searches : (old : List ℕ) → AddsSearches q p before [] old old (record { is_complete = true; is_refuted = false })
+  no_searches old = ([], (refl, refl, refl), sym (append-nil old))
 
   -- one more
-  pub search_more : (groups : List (List ℕ)) (places old mid new : List ℕ) (w wa : Bool) → AddsSearches q p before groups old mid w → AddsSearch q p before places mid new wa
-      → AddsSearches q p before (groups ++ places ∷ []) old new (w && wa)
-  search_more groups places old mid new w wa (text, are, longer) (a, one, more) =
-      (text ++ a, texts_more groups places text a w wa are one, more ∙ ap (λ t. t ++ a) longer ∙ append_assoc old text a)
+  pub search_more : (groups : List (List ℕ)) (places old mid new : List ℕ) (e one both : SearchEnd) → both.is_complete ≡ (e.is_complete && one.is_complete) → both.is_refuted ≡ (e.is_refuted || one.is_refuted)
+      → AddsSearches q p before groups old mid e → AddsSearch q p before places mid new one → AddsSearches q p before (groups ++ places ∷ []) old new both
+  search_more groups places old mid new e one both whole refuted (text, are, longer) (a, is, more) = (
+    text ++ a,
+    subst (λ b. AreSearchTexts q p before (groups ++ places ∷ []) (text ++ a) b both.is_refuted) (sym whole)
+        (subst (AreSearchTexts q p before (groups ++ places ∷ []) (text ++ a) (e.is_complete && one.is_complete)) (sym refuted)
+        (texts_more groups places text a e.is_complete one.is_complete e.is_refuted one.is_refuted are is)),
+    more ∙ ap (λ t. t ++ a) longer ∙ append_assoc old text a,
+  )
 
   -- that of the session at the next place
-  pub place_search_more : (places : List ℕ) (i : ℕ) (old mid new : List ℕ) (w wa : Bool) → i < length places → AddsSearches q p before (map (λ n. n ∷ []) (take i places)) old mid w
-      → AddsSearch q p before (get_or places i 0 ∷ []) mid new wa → AddsSearches q p before (map (λ n. n ∷ []) (take (i + 1) places)) old new (w && wa)
-  place_search_more places i old mid new w wa below so_far one =
-      subst (λ gs. AddsSearches q p before gs old new (w && wa))
+  pub place_search_more : (places : List ℕ) (i : ℕ) (old mid new : List ℕ) (e one both : SearchEnd) → both.is_complete ≡ (e.is_complete && one.is_complete) → both.is_refuted ≡ (e.is_refuted || one.is_refuted) → i < length places
+      → AddsSearches q p before (map (λ n. n ∷ []) (take i places)) old mid e → AddsSearch q p before (get_or places i 0 ∷ []) mid new one → AddsSearches q p before (map (λ n. n ∷ []) (take (i + 1) places)) old new both
+  place_search_more places i old mid new e one both whole refuted below so_far is =
+      subst (λ gs. AddsSearches q p before gs old new both)
       (sym (ap (map (λ n. n ∷ [])) (take_more places i 0 below) ∙ map-append (λ n. n ∷ []) (take i places) (get_or places i 0 ∷ [])))
-      (search_more (map (λ n. n ∷ []) (take i places)) (get_or places i 0 ∷ []) old mid new w wa so_far one)
+      (search_more (map (λ n. n ∷ []) (take i places)) (get_or places i 0 ∷ []) old mid new e one both whole refuted so_far is)
 
-  pub all_searches : (places : List ℕ) (i : ℕ) (old new : List ℕ) (w : Bool) → length places ≤ i → AddsSearches q p before (map (λ n. n ∷ []) (take i places)) old new w
-      → AddsSearches q p before (map (λ n. n ∷ []) places) old new w
-  all_searches places i old new w past so_far = subst (λ ns. AddsSearches q p before (map (λ n. n ∷ []) ns) old new w) (take_all i places past) so_far
+  pub all_searches : (places : List ℕ) (i : ℕ) (old new : List ℕ) (e : SearchEnd) → length places ≤ i → AddsSearches q p before (map (λ n. n ∷ []) (take i places)) old new e
+      → AddsSearches q p before (map (λ n. n ∷ []) places) old new e
+  all_searches places i old new e past so_far = subst (λ ns. AddsSearches q p before (map (λ n. n ∷ []) ns) old new e) (take_all i places past) so_far
 
   -- where no session is asked about
-  pub one_group : (places old new : List ℕ) (w : Bool) → is_empty places ≡ true → AddsSearch q p before places old new w → AddsSearches q p before (groups_of places) old new w
-  one_group [] old new w is one = search_more [] [] old old new true w (no_searches old) one
-  one_group (n ∷ ns) old new w is one = cc
+  pub one_group : (places old new : List ℕ) (e : SearchEnd) → is_empty places ≡ true → AddsSearch q p before places old new e → AddsSearches q p before (groups_of places) old new e
+  one_group [] old new e is one = search_more [] [] old old new (record { is_complete = true; is_refuted = false }) e e refl refl (no_searches old) one
+  one_group (n ∷ ns) old new e is one = cc
 
-  pub each_group : (places old new : List ℕ) (w : Bool) → is_empty places ≡ false → AddsSearches q p before (map (λ n. n ∷ []) places) old new w → AddsSearches q p before (groups_of places) old new w
-  each_group [] old new w is many = cc
-  each_group (n ∷ ns) old new w is many = many
+  pub each_group : (places old new : List ℕ) (e : SearchEnd) → is_empty places ≡ false → AddsSearches q p before (map (λ n. n ∷ []) places) old new e → AddsSearches q p before (groups_of places) old new e
+  each_group [] old new e is many = cc
+  each_group (n ∷ ns) old new e is many = many
 
   -- a text that began empty
-  pub texts_of : (groups : List (List ℕ)) (old new : List ℕ) (w v : Bool) → old ≡ [] → w ≡ v → AddsSearches q p before groups old new w → AreSearchTexts q p before groups new v
-  texts_of groups old new w v began is (text, are, longer) =
-      subst (λ b. AreSearchTexts q p before groups new b) is (subst (λ t. AreSearchTexts q p before groups t w) (sym (longer ∙ ap (λ t. t ++ text) began)) are)
+  pub texts_of : (groups : List (List ℕ)) (old new : List ℕ) (e : SearchEnd) → old ≡ [] → AddsSearches q p before groups old new e → AreSearchTexts q p before groups new e.is_complete e.is_refuted
+  texts_of groups old new e began (text, are, longer) = subst (λ t. AreSearchTexts q p before groups t e.is_complete e.is_refuted) (sym (longer ∙ ap (λ t. t ++ text) began)) are
 
 -- by the moves that are asked for
 pub asked_exploration : (q : ExploreRequest) (p : Program) (before : List ℕ) (outcome : ExploreOutcome) (text : List ℕ) → AreMovesOf (schedule_seen q.schedule) p before → IsExplorationFrom q p before outcome text → IsExploration q p outcome text
 asked_exploration q p before Complete text made is = record { before = before; made = made; exploration = is }
 asked_exploration q p before Incomplete text made is = record { before = before; made = made; exploration = is }
+asked_exploration q p before Unmet text made is = record { before = before; made = made; exploration = is }
 asked_exploration q p before NoSession text made is = record { before = before; made = made; exploration = is }
 asked_exploration q p before (Refused r) text made is = absurd is

@@ -7,12 +7,12 @@ use Rattle.tn_answers.specs.AnswerViews.{session_name_seen}
 use Rattle.tn_answers.specs.declared.entry.SessionName.{SessionName}
 use Rattle.tn_search.specs.Sessions.{element_at, elements_at}
 use Rattle.tn_search.proofs.Places.{elements_more}
-use Rattle.tn_exploration.specs.Requests.{is_session_asked, place_asked, places_from}
+use Rattle.tn_exploration.specs.Requests.{is_session_of_request, place_of_request, places_from}
 
 -- ---- one place more
 
-pub none_there : (asked : Option Name) (place : ℕ) (places : List ℕ) (o : Option (Name × Name)) → o ≡ None → places ≡ places ++ place_asked asked place o
-none_there asked place places o none = sym (ap (λ x. places ++ place_asked asked place x) none ∙ append-nil places)
+pub none_there : (asked : Option Name) (place : ℕ) (places : List ℕ) (o : Option (Name × Name)) → o ≡ None → places ≡ places ++ place_of_request asked place o
+none_there asked place places o none = sym (ap (λ x. places ++ place_of_request asked place x) none ∙ append-nil places)
 
 picked : (b : Bool) (place : ℕ) → b ≡ true → (if b then place ∷ [] else []) ≡ place ∷ []
 picked true place is = refl
@@ -22,33 +22,33 @@ passed : (b : Bool) (place : ℕ) → b ≡ false → (if b then place ∷ [] el
 passed true place is = cc
 passed false place is = refl
 
-pub not_asked : (asked : Option Name) (place : ℕ) (places : List ℕ) (o : Option (Name × Name)) (s : Name × Name) (b : Bool) → o ≡ Some s → b ≡ is_session_asked asked s.0 → b ≡ false → places ≡ places ++ place_asked asked place o
+pub not_asked : (asked : Option Name) (place : ℕ) (places : List ℕ) (o : Option (Name × Name)) (s : Name × Name) (b : Bool) → o ≡ Some s → b ≡ is_session_of_request asked s.0 → b ≡ false → places ≡ places ++ place_of_request asked place o
 not_asked asked place places o s b there says is =
-    sym (ap (λ x. places ++ place_asked asked place x) there ∙ ap (λ xs. places ++ xs) (passed (is_session_asked asked s.0) place (sym says ∙ is)) ∙ append-nil places)
+    sym (ap (λ x. places ++ place_of_request asked place x) there ∙ ap (λ xs. places ++ xs) (passed (is_session_of_request asked s.0) place (sym says ∙ is)) ∙ append-nil places)
 
-pub one_asked : (asked : Option Name) (place : ℕ) (old new : List ℕ) (o : Option (Name × Name)) (s : Name × Name) (b : Bool) → o ≡ Some s → b ≡ is_session_asked asked s.0 → b ≡ true → new ≡ old ++ place ∷ [] → new ≡ old ++ place_asked asked place o
+pub one_asked : (asked : Option Name) (place : ℕ) (old new : List ℕ) (o : Option (Name × Name)) (s : Name × Name) (b : Bool) → o ≡ Some s → b ≡ is_session_of_request asked s.0 → b ≡ true → new ≡ old ++ place ∷ [] → new ≡ old ++ place_of_request asked place o
 one_asked asked place old new o s b there says is longer =
-    longer ∙ sym (ap (λ x. old ++ place_asked asked place x) there ∙ ap (λ xs. old ++ xs) (picked (is_session_asked asked s.0) place (sym says ∙ is)))
+    longer ∙ sym (ap (λ x. old ++ place_of_request asked place x) there ∙ ap (λ xs. old ++ xs) (picked (is_session_of_request asked s.0) place (sym says ∙ is)))
 
 -- ---- the first of some places
 
-next_place : (asked : Option Name) (cs : List (Name × Name)) (n i : ℕ) → i < length cs → places_from asked n (take (suc i) cs) ≡ places_from asked n (take i cs) ++ place_asked asked (n + i) (slice_get cs i)
+next_place : (asked : Option Name) (cs : List (Name × Name)) (n i : ℕ) → i < length cs → places_from asked n (take (suc i) cs) ≡ places_from asked n (take i cs) ++ place_of_request asked (n + i) (slice_get cs i)
 next_place asked [] n i below = absurd (omega arith)
 next_place asked (c ∷ cs) n zero below =
     let same : n ≡ n + 0 = omega arith in
-    append-nil (place_asked asked n (Some c)) ∙ ap (λ k. place_asked asked k (Some c)) same
+    append-nil (place_of_request asked n (Some c)) ∙ ap (λ k. place_of_request asked k (Some c)) same
 next_place asked (c ∷ cs) n (suc i) below =
     let same : suc n + i ≡ n + suc i = omega arith in
-    ap (λ xs. place_asked asked n (Some c) ++ xs) (next_place asked cs (suc n) i (omega arith))
-    ∙ sym (append_assoc (place_asked asked n (Some c)) (places_from asked (suc n) (take i cs)) (place_asked asked (suc n + i) (slice_get cs i)))
-    ∙ ap (λ k. (place_asked asked n (Some c) ++ places_from asked (suc n) (take i cs)) ++ place_asked asked k (slice_get cs i)) same
+    ap (λ xs. place_of_request asked n (Some c) ++ xs) (next_place asked cs (suc n) i (omega arith))
+    ∙ sym (append_assoc (place_of_request asked n (Some c)) (places_from asked (suc n) (take i cs)) (place_of_request asked (suc n + i) (slice_get cs i)))
+    ∙ ap (λ k. (place_of_request asked n (Some c) ++ places_from asked (suc n) (take i cs)) ++ place_of_request asked k (slice_get cs i)) same
 
-pub place_more : (asked : Option Name) (cs : List (Name × Name)) (i : ℕ) (old new : List ℕ) → i < length cs → new ≡ old ++ place_asked asked i (slice_get cs i) → old ≡ places_from asked 0 (take i cs) → new ≡ places_from asked 0 (take (i + 1) cs)
+pub place_more : (asked : Option Name) (cs : List (Name × Name)) (i : ℕ) (old new : List ℕ) → i < length cs → new ≡ old ++ place_of_request asked i (slice_get cs i) → old ≡ places_from asked 0 (take i cs) → new ≡ places_from asked 0 (take (i + 1) cs)
 place_more asked cs i old new below more so_far =
     let same : i ≡ 0 + i = omega arith in
     more
-    ∙ ap (λ xs. xs ++ place_asked asked i (slice_get cs i)) so_far
-    ∙ ap (λ k. places_from asked 0 (take i cs) ++ place_asked asked k (slice_get cs i)) same
+    ∙ ap (λ xs. xs ++ place_of_request asked i (slice_get cs i)) so_far
+    ∙ ap (λ k. places_from asked 0 (take i cs) ++ place_of_request asked k (slice_get cs i)) same
     ∙ sym (ap (λ k. places_from asked 0 (take k cs)) (add-one i) ∙ next_place asked cs 0 i below)
 
 pub all_places : (asked : Option Name) (cs : List (Name × Name)) (i : ℕ) (places : List ℕ) → length cs ≤ i → places ≡ places_from asked 0 (take i cs) → places ≡ places_from asked 0 cs

@@ -1,13 +1,16 @@
 -- What is written of a program whose schedules are explored.
-use Rattle.std.specs.Prelude.{◌≡◌, ◌&&◌, ℕ, suc, Bool, true, false, List, [], ◌∷◌, ◌++◌, map, Option, Some, None, is_some, if◌then◌else◌}
+use Rattle.std.specs.Prelude.{◌≡◌, ◌&&◌, ◌||◌, ℕ, suc, Bool, true, false, List, [], ◌∷◌, ◌++◌, map, Option, Some, None, is_some, if◌then◌else◌}
 use Rattle.std.specs.Option.{option_map}
 use Rattle.std.specs.Str.{bytes_eq}
+use Rattle.std.specs.List.{list_any}
 use Rattle.def_term.specs.Names.{Name}
 use Rattle.def_script.specs.Program.{Program}
 use Rattle.def_script.specs.Script.{Refusal, creations}
 use Rattle.def_run.specs.Round.{is_empty}
 use Rattle.def_explore.specs.Answers.{RestEntry}
-use Rattle.def_explore.specs.Output.{exploration_text}
+use Rattle.def_explore.specs.Output.{search_text}
+use Rattle.def_explore.specs.Words.{PatternQuestion, refutes}
+use Rattle.tn_message_pattern.specs.Questions.{pattern_question_seen}
 use Rattle.tn_explore.specs.Searches.{Explores}
 use Rattle.tn_moves.specs.Schedules.{schedule_seen, AreMovesOf, HasPicks}
 use Rattle.tn_run.specs.Answers.{IsRefusedRun, text_refusal}
@@ -17,28 +20,29 @@ use Rattle.tn_search.specs.Sessions.{elements_at}
 use Rattle.tn_search.specs.States.{query_of, is_by_process}
 use Rattle.tn_exploration.specs.declared.request.ExploreRequest.{ExploreRequest}
 use Rattle.tn_exploration.specs.declared.request.ExploreOutcome.{ExploreOutcome}
-use Rattle.tn_exploration.specs.declared.request.ExploreOutcome.TheVariants.{Complete, Incomplete, NoSession, Refused}
+use Rattle.tn_exploration.specs.declared.searches.SearchEnd.{SearchEnd}
+use Rattle.tn_exploration.specs.declared.request.ExploreOutcome.TheVariants.{Complete, Incomplete, Unmet, NoSession, Refused}
 
 -- ---- the sessions that it is about
 
--- the name that is asked for, where one is
-abbrev pub asked_name : ExploreRequest → Option Name
-asked_name q = option_map (λ s. s.now) q.session
+-- the name of the session that it is about, where it is about one
+abbrev pub session_name : ExploreRequest → Option Name
+session_name q = option_map (λ s. s.now) q.session
 
--- no name is asked for, or this one
-abbrev pub is_session_asked : Option Name → Name → Bool
-is_session_asked None name = true
-is_session_asked (Some asked) name = bytes_eq asked name
+-- it is about all sessions, or about that of this name
+abbrev pub is_session_of_request : Option Name → Name → Bool
+is_session_of_request None name = true
+is_session_of_request (Some asked) name = bytes_eq asked name
 
--- the place, where the session there is asked for
-abbrev pub place_asked : Option Name → ℕ → Option (Name × Name) → List ℕ
-place_asked asked place None = []
-place_asked asked place (Some session) = if is_session_asked asked session.0 then place ∷ [] else []
+-- the place, where it is about the session there
+abbrev pub place_of_request : Option Name → ℕ → Option (Name × Name) → List ℕ
+place_of_request asked place None = []
+place_of_request asked place (Some session) = if is_session_of_request asked session.0 then place ∷ [] else []
 
--- the places, from this one on, of the sessions that are asked for
+-- the places, from this one on, of the sessions that it is about
 abbrev pub places_from : Option Name → ℕ → List (Name × Name) → List ℕ
 places_from asked place [] = []
-places_from asked place (session ∷ sessions) = place_asked asked place (Some session) ++ places_from asked (suc place) sessions
+places_from asked place (session ∷ sessions) = place_of_request asked place (Some session) ++ places_from asked (suc place) sessions
 
 -- those of a program
 abbrev pub places_of : Option Name → Program → List ℕ
@@ -46,24 +50,30 @@ places_of asked p = places_from asked 0 (creations p.commands)
 
 -- ---- what is written
 
--- the text is that of a search through all schedules that begin with a journal, about the sessions at these places, and says whether it tried all states
-pub record IsSearchText (q : ExploreRequest) (p : Program) (before places text : List ℕ) (whole : Bool) : Type 0 where
+-- the patterns that it is about
+abbrev pub questions_of : ExploreRequest → List PatternQuestion
+questions_of q = map pattern_question_seen q.patterns.now
+
+-- the text is that of a search through all schedules that begin with a journal, about the sessions at these places; it says whether all states were tried, and whether a demand is refuted
+pub record IsSearchText (q : ExploreRequest) (p : Program) (before places text : List ℕ) (whole refuted : Bool) : Type 0 where
   pub entries : List RestEntry
   pub states : ℕ
   pub search : Explores (query_of (is_by_process q.order) p before places) entries q.max_states states whole
-  pub written : text ≡ exploration_text (elements_at places (creations p.commands)) entries states whole
+  pub written : text ≡ search_text (elements_at places (creations p.commands)) (questions_of q) entries states whole
+  pub demands : refuted ≡ list_any (refutes entries whole) (questions_of q)
 
--- the text of a search, and whether it tried all states
+-- the text of a search, whether it tried all states, and whether it refutes a demand
 pub record SearchText : Type 0 where
   pub text : List ℕ
   pub whole : Bool
+  pub refuted : Bool
 
--- the texts of searches, each about the sessions at some places, one after another, and whether all of them tried all states
-abbrev pub AreSearchTexts : ExploreRequest → Program → List ℕ → List (List ℕ) → List ℕ → Bool → Type 0
-AreSearchTexts q p before [] text whole = (text ≡ []) × (whole ≡ true)
-AreSearchTexts q p before (places ∷ groups) text whole =
-    (a : SearchText) × (b : SearchText) × IsSearchText q p before places a.text a.whole × AreSearchTexts q p before groups b.text b.whole
-    × (text ≡ a.text ++ b.text) × (whole ≡ (a.whole && b.whole))
+-- the texts of searches, each about the sessions at some places, one after another, whether all of them tried all states, and whether one refutes a demand
+abbrev pub AreSearchTexts : ExploreRequest → Program → List ℕ → List (List ℕ) → List ℕ → (whole refuted : Bool) → Type 0
+AreSearchTexts q p before [] text whole refuted = (text ≡ []) × (whole ≡ true) × (refuted ≡ false)
+AreSearchTexts q p before (places ∷ groups) text whole refuted =
+    (a : SearchText) × (b : SearchText) × IsSearchText q p before places a.text a.whole a.refuted × AreSearchTexts q p before groups b.text b.whole b.refuted
+    × (text ≡ a.text ++ b.text) × (whole ≡ (a.whole && b.whole)) × (refuted ≡ (a.refuted || b.refuted))
 
 -- each session is asked about by itself, as it depends on no other; where there is none, what moves is asked about alone
 abbrev pub groups_of : List ℕ → List (List ℕ)
@@ -77,21 +87,23 @@ lacks_session q places = is_some q.session && is_empty places
 -- by each outcome
 abbrev pub IsExplorationFrom : ExploreRequest → Program → List ℕ → ExploreOutcome → List ℕ → Type 0
 IsExplorationFrom q p before Complete text =
-    let places = places_of (asked_name q) p in (lacks_session q places ≡ false) × AreSearchTexts q p before (groups_of places) text true
+    let places = places_of (session_name q) p in (lacks_session q places ≡ false) × AreSearchTexts q p before (groups_of places) text true false
 IsExplorationFrom q p before Incomplete text =
-    let places = places_of (asked_name q) p in (lacks_session q places ≡ false) × AreSearchTexts q p before (groups_of places) text false
-IsExplorationFrom q p before NoSession text = (lacks_session q (places_of (asked_name q) p) ≡ true) × (text ≡ [])
+    let places = places_of (session_name q) p in (lacks_session q places ≡ false) × AreSearchTexts q p before (groups_of places) text false false
+IsExplorationFrom q p before Unmet text =
+    let places = places_of (session_name q) p in (lacks_session q places ≡ false) × ((whole : Bool) × AreSearchTexts q p before (groups_of places) text whole true)
+IsExplorationFrom q p before NoSession text = (lacks_session q (places_of (session_name q) p) ≡ true) × (text ≡ [])
 IsExplorationFrom q p before (Refused r) text = ⊥
 
 -- ---- a text that grows
 
 -- the text of a search comes after it
-abbrev pub AddsSearch : ExploreRequest → Program → (before places : List ℕ) → (old new : List ℕ) → Bool → Type 0
-AddsSearch q p before places old new whole = (text : List ℕ) × IsSearchText q p before places text whole × (new ≡ old ++ text)
+abbrev pub AddsSearch : ExploreRequest → Program → (before places : List ℕ) → (old new : List ℕ) → SearchEnd → Type 0
+AddsSearch q p before places old new end = (text : List ℕ) × IsSearchText q p before places text end.is_complete end.is_refuted × (new ≡ old ++ text)
 
 -- the texts of searches do
-abbrev pub AddsSearches : ExploreRequest → Program → List ℕ → List (List ℕ) → (old new : List ℕ) → Bool → Type 0
-AddsSearches q p before groups old new whole = (text : List ℕ) × AreSearchTexts q p before groups text whole × (new ≡ old ++ text)
+abbrev pub AddsSearches : ExploreRequest → Program → List ℕ → List (List ℕ) → (old new : List ℕ) → SearchEnd → Type 0
+AddsSearches q p before groups old new end = (text : List ℕ) × AreSearchTexts q p before groups text end.is_complete end.is_refuted × (new ≡ old ++ text)
 
 -- ---- by the moves that are asked for
 
@@ -115,6 +127,7 @@ explore_refusal outcome = None
 abbrev pub is_exploration : ExploreOutcome → Bool
 is_exploration Complete = true
 is_exploration Incomplete = true
+is_exploration Unmet = true
 is_exploration NoSession = false
 is_exploration (Refused r) = false
 

@@ -37,8 +37,11 @@ fn exploration_from<A: Allocator + Copy>(
     if lacks_session(request, &places) {
         return Ok((ExploreOutcome::NoSession, text));
     }
-    let is_complete = put_groups(alloc, program, request, before, &places, &mut text)?;
-    if is_complete {
+    let end = put_groups(alloc, program, request, before, &places, &mut text)?;
+    if end.is_refuted {
+        return Ok((ExploreOutcome::Unmet, text));
+    }
+    if end.is_complete {
         Ok((ExploreOutcome::Complete, text))
     } else {
         Ok((ExploreOutcome::Incomplete, text))
@@ -92,6 +95,7 @@ impl<A: Allocator + Copy> Job<A> for ExploreRequest<'_> {
         match outcome {
             ExploreOutcome::Complete => true,
             ExploreOutcome::Incomplete => true,
+            ExploreOutcome::Unmet => true,
             ExploreOutcome::NoSession => false,
             ExploreOutcome::Refused(_) => false,
         }
@@ -116,8 +120,8 @@ impl<A: Allocator + Copy> DirectJob<A> for ExploreRequest<'_> {
     }
 }
 
-/// Explores all schedules of the script that the reader holds: writes the listings that they give, or the line of the
-/// refusal, or nothing where the moves are refused, as `tn_run::transact` says.
+/// Explores all schedules of the script that the reader holds: writes the listings that they give or the words for the
+/// patterns, or the line of the refusal, or nothing where the moves are refused, as `tn_run::transact` says.
 pub fn explore<A: Allocator + Copy, R: Read, W: Write>(
     alloc: A,
     reader: &mut Watched<R>,

@@ -1,13 +1,17 @@
 //! What a program's schedules can give: the job of a command, and its text.
 //!
-//! Depends on tn_search (the search), tn_answers (the text) and tn_run (jobs). Promises that `explore` writes the
-//! defined texts of explorations of the program's runs, each about one session, or the line of the one refusal.
+//! Depends on tn_search (the search), tn_answers (the text), tn_message_pattern (patterns) and tn_run (jobs). Promises
+//! that `explore` writes the defined texts of explorations of the program's runs, each about one session, or the line
+//! of the one refusal; that its outcome says whether all were complete and whether what is demanded of a pattern is
+//! refuted; and that `add_questions` adds the patterns that texts spell, or says why one spells none.
 #![tactic(auto)]
 
 mod job;
+mod questions;
 mod request;
 mod searches;
 mod sessions;
 
 pub use job::explore;
+pub use questions::{QuestionsFault, add_questions};
 pub use request::{ExploreOutcome, ExploreRequest};

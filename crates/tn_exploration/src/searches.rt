@@ -1,16 +1,23 @@
 // The texts of searches, one after another.
-ghost use Rattle.std.specs.Prelude.{◌≡◌, ◌&&◌, ◌∷◌, [], IfOk, map};
+ghost use Rattle.std.specs.Prelude.{◌≡◌, ◌&&◌, ◌||◌, ◌∷◌, [], IfOk, map};
 ghost use Rattle.tn_program.specs.Views.{program_of};
 ghost use Rattle.tn_exploration.specs.Requests.{AddsSearch, AddsSearches, groups_of};
 
 use crate::request::ExploreRequest;
 use crate::sessions::names_at;
 use std::alloc::{AllocError, Allocator};
-use tn_answers::exploration_text;
+use tn_answers::search_answer;
 use tn_program::Program;
 use tn_search::explore_program;
 
-/// Appends the text of a search about the sessions at some places: whether it tried all states.
+/// How searches ended: whether all of them tried all states, and whether what one says refutes a demand.
+#[derive(Clone, Copy)]
+pub(crate) struct SearchEnd {
+    pub(crate) is_complete: bool,
+    pub(crate) is_refuted: bool,
+}
+
+/// Appends the text of a search about the sessions at some places.
 fn put_search<A: Allocator + Copy>(
     alloc: A,
     program: &Program<A>,
@@ -18,16 +25,19 @@ fn put_search<A: Allocator + Copy>(
     before: &[u32],
     places: &[usize],
     text: &mut Vec<u8, A>,
-) -> Result<bool, AllocError>
+) -> Result<SearchEnd, AllocError>
     ensures { IfOk result (AddsSearch request.now (program_of program.now) before.now places.now
         text.old.items text.new.items) }
 {
     let names = names_at(alloc, program, places)?;
     let most = request.max_states;
     let exploration = explore_program(alloc, program, before, request.order, places, most)?;
-    let own = exploration_text(alloc, &names, &exploration)?;
-    text.extend_from_slice(&own)?;
-    Ok(exploration.is_complete)
+    let answer = search_answer(alloc, &names, request.patterns, &exploration)?;
+    text.extend_from_slice(&answer.text)?;
+    Ok(SearchEnd {
+        is_complete: exploration.is_complete,
+        is_refuted: answer.is_refuted,
+    })
 }
 
 /// Appends that of the session at a place.
@@ -38,7 +48,7 @@ fn put_one<A: Allocator + Copy>(
     before: &[u32],
     place: usize,
     text: &mut Vec<u8, A>,
-) -> Result<bool, AllocError>
+) -> Result<SearchEnd, AllocError>
     ensures { IfOk result (AddsSearch request.now (program_of program.now) before.now (place ∷ [])
         text.old.items text.new.items) }
 {
@@ -47,14 +57,18 @@ fn put_one<A: Allocator + Copy>(
     put_search(alloc, program, request, before, &places, text)
 }
 
-/// Whether both are so.
-fn both(one: bool, other: bool) -> bool
-    ensures { result ≡ (one && other) }
+/// How both ended.
+fn both(one: SearchEnd, other: SearchEnd) -> SearchEnd
+    ensures complete { result.is_complete ≡ (one.is_complete && other.is_complete) }
+    ensures refuted { result.is_refuted ≡ (one.is_refuted || other.is_refuted) }
 {
-    one && other
+    SearchEnd {
+        is_complete: one.is_complete && other.is_complete,
+        is_refuted: one.is_refuted || other.is_refuted,
+    }
 }
 
-/// Appends those of the session at each of these places: whether all tried all states.
+/// Appends those of the session at each of these places.
 fn put_each<A: Allocator + Copy>(
     alloc: A,
     program: &Program<A>,
@@ -62,14 +76,17 @@ fn put_each<A: Allocator + Copy>(
     before: &[u32],
     places: &[usize],
     text: &mut Vec<u8, A>,
-) -> Result<bool, AllocError>
+) -> Result<SearchEnd, AllocError>
     ensures { IfOk result (AddsSearches request.now (program_of program.now) before.now
         (map (λ n. n ∷ []) places.now) text.old.items text.new.items) }
 {
-    let mut all = true;
+    let mut all = SearchEnd {
+        is_complete: true,
+        is_refuted: false,
+    };
     for place in places {
-        let whole = put_one(alloc, program, request, before, *place, text)?;
-        all = both(all, whole);
+        let one = put_one(alloc, program, request, before, *place, text)?;
+        all = both(all, one);
     }
     Ok(all)
 }
@@ -82,7 +99,7 @@ pub(crate) fn put_groups<A: Allocator + Copy>(
     before: &[u32],
     places: &[usize],
     text: &mut Vec<u8, A>,
-) -> Result<bool, AllocError>
+) -> Result<SearchEnd, AllocError>
     ensures { IfOk result (AddsSearches request.now (program_of program.now) before.now (groups_of places.now)
         text.old.items text.new.items) }
 {

@@ -5,7 +5,7 @@ ghost use Rattle.def_script.specs.Script.{creations};
 ghost use Rattle.tn_program.specs.Views.{program_of};
 ghost use Rattle.tn_answers.specs.AnswerViews.{session_name_seen};
 ghost use Rattle.tn_search.specs.Sessions.{element_at, elements_at};
-ghost use Rattle.tn_exploration.specs.Requests.{is_session_asked, place_asked, places_of};
+ghost use Rattle.tn_exploration.specs.Requests.{is_session_of_request, place_of_request, places_of};
 
 use std::alloc::{AllocError, Allocator};
 use tn_answers::SessionName;
@@ -13,8 +13,8 @@ use tn_program::Program;
 use tn_term::Atom;
 
 /// Whether the session of this name is asked for: that of the asked name alone, where one is given.
-fn is_session_asked<A: Allocator>(asked: Option<&str>, name: &Atom<A>) -> bool
-    ensures { result ≡ is_session_asked (option_map (λ s. s.now) asked.entry) name.now }
+fn is_session_of_request<A: Allocator>(asked: Option<&str>, name: &Atom<A>) -> bool
+    ensures { result ≡ is_session_of_request (option_map (λ s. s.now) asked.entry) name.now }
 {
     match asked {
         None => true,
@@ -31,12 +31,12 @@ fn add_place<A: Allocator + Copy>(
 ) -> Result<(), AllocError>
     ensures { let name = option_map (λ s. s.now) asked.entry in
         let at = slice_get (creations (program_of program.now).commands) place in
-        OnOk result (places.new.items ≡ places.old.items ++ place_asked name place at) }
+        OnOk result (places.new.items ≡ places.old.items ++ place_of_request name place at) }
 {
     let Some((name, _)) = program.session_at(place) else {
         return Ok(());
     };
-    if !is_session_asked(asked, name) {
+    if !is_session_of_request(asked, name) {
         return Ok(());
     }
     places.push(place)?;

@@ -131,9 +131,13 @@ TRIAL = codes "list" ∷ codes "for" ∷ codes "me" ∷ codes "caller" ∷ codes
 abbrev pub FUN_ARGUMENTS : List (List ℕ)
 FUN_ARGUMENTS = codes "for" ∷ codes "pretty" ∷ codes "fun" ∷ []
 
+-- which schedules, and what is in an order
+abbrev pub SCHEDULES : List (List ℕ)
+SCHEDULES = codes "script" ∷ codes "after" ∷ codes "control" ∷ codes "order" ∷ codes "session" ∷ []
+
 -- the arguments of `explore`
 abbrev pub EXPLORE_ARGUMENTS : List (List ℕ)
-EXPLORE_ARGUMENTS = codes "script" ∷ codes "after" ∷ codes "control" ∷ codes "order" ∷ codes "session" ∷ codes "max-states" ∷ codes "max-output" ∷ []
+EXPLORE_ARGUMENTS = SCHEDULES ++ codes "shows" ∷ codes "always" ∷ codes "never" ∷ codes "sometimes" ∷ codes "max-states" ∷ codes "max-output" ∷ []
 
 -- the commands of the program
 abbrev pub COMMAND_NAMES : List (List ℕ)

@@ -31,8 +31,8 @@ Examples:
 Exit status:
   0  the output was written
   1  the output was written, and isn't what --expect, --expect-session, --expect-line or --reject-line
-     says, or a command is refused, matches no function or has a match specification that does
-     nothing, under --strict
+     says, or an exploration refutes --always, --never or --sometimes, or a command is refused, matches
+     no function or has a match specification that does nothing, under --strict
   2  the script, the picks or the command line is refused
   3  a fault: a failed read or write, a lack of memory, or an output past --max-output
   4  an exploration that ended before it had tried all states";

@@ -1,6 +1,6 @@
 // The command `explore`, with its arguments.
 ghost use Rattle.std.specs.Prelude.{codes, IfOk};
-ghost use Rattle.tn_line.specs.Line.{EXPLORE_ARGUMENTS, IsCommand, IsElse, IsFromTo, IsOption};
+ghost use Rattle.tn_line.specs.Line.{EXPLORE_ARGUMENTS, SCHEDULES, IsCommand, IsElse, IsFromTo, IsOption, IsOptions};
 
 use crate::arguments::{ORDERS, max_output, script};
 use clap::{Arg, ArgAction, Command, value_parser};
@@ -62,6 +62,62 @@ fn one_session<'a>(alloc: Global) -> Arg<'a>
         .action(ArgAction::Set)
 }
 
+/// `--shows PATTERN`. PATTERN may begin with a hyphen.
+fn shows<'a>(alloc: Global) -> Arg<'a>
+    ensures { IsOptions (codes "shows") result }
+{
+    Arg::new(alloc, "shows")
+        .long("shows")
+        .value_name("PATTERN")
+        .help(
+            "Says whether each listing has a trace message that matches, in place of the listings; it may be given again",
+        )
+        .allow_hyphen_values(true)
+        .action(ArgAction::Append)
+}
+
+/// `--always PATTERN`.
+fn always<'a>(alloc: Global) -> Arg<'a>
+    ensures { IsOptions (codes "always") result }
+{
+    Arg::new(alloc, "always")
+        .long("always")
+        .value_name("PATTERN")
+        .help(
+            "Each listing must have a trace message that matches, or else the exit status is 1; it may be given again",
+        )
+        .allow_hyphen_values(true)
+        .action(ArgAction::Append)
+}
+
+/// `--never PATTERN`.
+fn never<'a>(alloc: Global) -> Arg<'a>
+    ensures { IsOptions (codes "never") result }
+{
+    Arg::new(alloc, "never")
+        .long("never")
+        .value_name("PATTERN")
+        .help(
+            "No listing may have a trace message that matches, or else the exit status is 1; it may be given again",
+        )
+        .allow_hyphen_values(true)
+        .action(ArgAction::Append)
+}
+
+/// `--sometimes PATTERN`.
+fn sometimes<'a>(alloc: Global) -> Arg<'a>
+    ensures { IsOptions (codes "sometimes") result }
+{
+    Arg::new(alloc, "sometimes")
+        .long("sometimes")
+        .value_name("PATTERN")
+        .help(
+            "Some listings must have a trace message that matches and some none, or else the exit status is 1; it may be given again",
+        )
+        .allow_hyphen_values(true)
+        .action(ArgAction::Append)
+}
+
 /// `--max-states N`.
 fn max_states<'a>(alloc: Global) -> Arg<'a>
     ensures named { IsOption (codes "max-states") result }
@@ -79,10 +135,9 @@ fn max_states<'a>(alloc: Global) -> Arg<'a>
         .action(ArgAction::Set)
 }
 
-/// The subcommand `explore [SCRIPT] [--after MOVES] [--control first] [--order ORDER] [--session NAME] [--max-states N]
-/// [--max-output BYTES]`.
-pub(crate) fn explore<'a>(alloc: Global) -> Result<Command<'a>, AllocError>
-    ensures { IfOk result (IsCommand (codes "explore") EXPLORE_ARGUMENTS) }
+/// The command with the arguments that say which schedules, and what is in an order.
+fn schedules<'a>(alloc: Global) -> Result<Command<'a>, AllocError>
+    ensures { IfOk result (IsCommand (codes "explore") SCHEDULES) }
 {
     Command::new(alloc, "explore")
         .about("Runs the script by all schedules, and prints each listing that a session can have")
@@ -90,7 +145,20 @@ pub(crate) fn explore<'a>(alloc: Global) -> Result<Command<'a>, AllocError>
         .arg(after(alloc))?
         .arg(first_control(alloc)?)?
         .arg(listing_order(alloc))?
-        .arg(one_session(alloc))?
+        .arg(one_session(alloc))
+}
+
+/// The subcommand `explore [SCRIPT] [--after MOVES] [--control first] [--order ORDER] [--session NAME]
+/// [--shows PATTERN] [--always PATTERN] [--never PATTERN] [--sometimes PATTERN] [--max-states N]
+/// [--max-output BYTES]`.
+pub(crate) fn explore<'a>(alloc: Global) -> Result<Command<'a>, AllocError>
+    ensures { IfOk result (IsCommand (codes "explore") EXPLORE_ARGUMENTS) }
+{
+    schedules(alloc)?
+        .arg(shows(alloc))?
+        .arg(always(alloc))?
+        .arg(never(alloc))?
+        .arg(sometimes(alloc))?
         .arg(max_states(alloc))?
         .arg(max_output(alloc))
 }

@@ -48,6 +48,7 @@ fn pid_of_message<A: Allocator>(term: &Term<A>) -> Option<u32>
 impl<A: Allocator> SharedMessage<A> {
     ghost use Rattle.std.specs.Prelude.{◌≡◌, IfOk};
     ghost use Rattle.def_term.specs.Text.{w};
+    ghost use Rattle.tn_term.specs.Views.{tree_of};
     ghost use Rattle.tn_text.specs.WrittenTrees.{written_tree};
     ghost use Rattle.tn_messages.specs.MessageViews.{message_process, message_tree};
 
@@ -74,11 +75,18 @@ impl<A: Allocator> SharedMessage<A> {
         self.message.text()
     }
 
+    /// The message.
+    pub fn term(&self) -> &Term<A>
+        ensures { tree_of result.now ≡ message_tree self.now }
+    {
+        self.message.term()
+    }
+
     /// The pid of the process that the message is of.
     pub fn pid(&self) -> Option<u32>
         ensures { result ≡ message_process (message_tree self.now) }
     {
-        pid_of_message(self.message.term())
+        pid_of_message(self.term())
     }
 }
 
@@ -92,7 +100,7 @@ impl<A: Allocator> PartialEq for SharedMessage<A> {
     ghost laws = { partial_equiv_from_equiv same_message_equiv };
 
     fn eq(&self, other: &SharedMessage<A>) -> bool {
-        self.message.term().order(other.message.term()).is_eq()
+        self.term().order(other.term()).is_eq()
     }
 }
 

@@ -9,7 +9,7 @@ ghost use Rattle.tn_request.specs.Explorations.{IsRequestStatus};
 ghost use Rattle.tn_request.specs.TaskFlaws.{flaw_asked};
 ghost use Rattle.tn_request.specs.Tasks.{job_asked};
 
-use crate::exploration::exploration_of;
+use crate::exploration::explore_words;
 use crate::fun_text::fun_text_of;
 use crate::job::{RequestOutcome, format_of, job_of};
 use crate::request::{Request, RunRequest};
@@ -24,8 +24,8 @@ use std::rt::Files;
 use std::sync::Wait;
 use std::thread::Threads;
 use tn_command::{
-    INPUT, InFormat, JobEnd, OutputFault, OutputForm, Source, Streams, WithinBytes, explore_script,
-    open, perform_over, print_over, test_specs,
+    INPUT, InFormat, JobEnd, OutputFault, OutputForm, Source, Streams, WithinBytes, open,
+    perform_over, print_over, test_specs,
 };
 use tn_expectation::Expectation;
 use tn_fun_command::{print_fun, print_fun_of_spec};
@@ -150,8 +150,6 @@ pub fn answer_request<R: Input + Files + Print + Eprint + AllocGlobal + Threads 
             print_fun_of_spec(rt, without_full_stop(fun_text_of(fun, read)), fun.dialect)
         }
         Request::Fun(fun) => print_fun(rt, fun_text_of(fun, read), fun.dialect),
-        Request::Explore(words) => {
-            explore_script(rt, words.script, &exploration_of(words), form.most)
-        }
+        Request::Explore(words) => explore_words(rt, words, form.most),
     }
 }

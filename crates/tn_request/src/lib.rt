@@ -17,7 +17,7 @@ mod trial;
 mod workers;
 
 pub use answer::{answer_request, perform_request_over, print_request_over};
-pub use exploration::exploration_of;
+pub use exploration::{PatternsFault, exploration_of, patterns_of};
 pub use fun_text::fun_text_of;
 pub use job::{RequestJob, RequestOutcome, format_of, job_of};
 pub use output::{ExpectedTexts, expectation_of, expected_texts};

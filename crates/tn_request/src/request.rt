@@ -76,6 +76,14 @@ pub struct ExploreArgs<'a> {
     pub order: ListingOrder,
     /// The session that it is about, where it isn't about all.
     pub session: Option<&'a str>,
+    /// The patterns that may have any word.
+    pub shows: &'a [&'a str],
+    /// Those that must have the word `always`.
+    pub always: &'a [&'a str],
+    /// Those that must have the word `never`.
+    pub never: &'a [&'a str],
+    /// Those that must have the word `sometimes`.
+    pub sometimes: &'a [&'a str],
     /// How many states may be met before it ends.
     pub max_states: u32,
 }

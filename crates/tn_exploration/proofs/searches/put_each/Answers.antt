@@ -1,6 +1,4 @@
-use Rattle.std.proofs.Common.{◌+◌, ◌∷◌, [], map, take, sym, subst}
 use Rattle.tn_program.specs.Views.{program_of}
-use Rattle.tn_exploration.specs.Requests.{AddsSearches}
 use Rattle.tn_exploration.proofs.Explorations.{no_searches, place_search_more, all_searches}
 use Rattle.tn_exploration.proofs.searches.put_each.Goals as goal
 
@@ -16,8 +14,7 @@ loop-place-preserved g c =
     let places = c.args.places.now in
     let old = c.args.text.now.items in
     let new = c.put_one.new.text.items in
-    subst (AddsSearches q p before (map (λ n. n ∷ []) (take (l.place-index + 1) places)) old new) (sym c.both-all.ensures)
-    (place_search_more q p before places l.place-index old l.text.items new l.all c.in_ok-whole.whole c.loop-place-test.true l.invariant c.in_ok-whole.ensures)
+    place_search_more q p before places l.place-index old l.text.items new l.all c.in_ok-one.one c.both-all.result c.both-all.ensures.complete c.both-all.ensures.refuted c.loop-place-test.true l.invariant c.in_ok-one.ensures
 
 pub returns : goal.returns
 returns g c =

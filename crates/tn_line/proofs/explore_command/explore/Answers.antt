@@ -1,18 +1,15 @@
-use Rattle.std.proofs.Common.{rules, codes, []}
-use Rattle.tn_line.specs.Line.{IsCommand}
+use Rattle.std.proofs.Common.{codes}
 use Rattle.tn_line.proofs.Names.{one_more, one_more_so}
 use Rattle.tn_line.proofs.explore_command.explore.Goals as goal
 
 pub returns : goal.returns
 returns c =
     let name = codes "explore" in
-    let bare : IsCommand name [] c.about.result = record { called = search rules; takes = search rules } in
-    let first = one_more name [] (codes "script") c.about.result c.in_ok-arg.field-0 c.script.result bare c.script.ensures.0 c.in_ok-arg.ensures in
-    let second = one_more name _ (codes "after") c.in_ok-arg.field-0 c.in_ok-arg-2.field-0 c.after.result first c.after.ensures.0 c.in_ok-arg-2.ensures in
-    let third = one_more name _ (codes "control") c.in_ok-arg-2.field-0 c.in_ok-arg-3.field-0 c.in_ok-first_control.field-0 second c.in_ok-first_control.ensures.0 c.in_ok-arg-3.ensures in
-    let fourth = one_more name _ (codes "order") c.in_ok-arg-3.field-0 c.in_ok-arg-4.field-0 c.listing_order.result third c.listing_order.ensures.named.0
+    let first = one_more name _ (codes "shows") c.in_ok-schedules.field-0 c.in_ok-arg.field-0 c.shows.result c.in_ok-schedules.ensures c.shows.ensures.0 c.in_ok-arg.ensures in
+    let second = one_more name _ (codes "always") c.in_ok-arg.field-0 c.in_ok-arg-2.field-0 c.always.result first c.always.ensures.0 c.in_ok-arg-2.ensures in
+    let third = one_more name _ (codes "never") c.in_ok-arg-2.field-0 c.in_ok-arg-3.field-0 c.never.result second c.never.ensures.0 c.in_ok-arg-3.ensures in
+    let fourth = one_more name _ (codes "sometimes") c.in_ok-arg-3.field-0 c.in_ok-arg-4.field-0 c.sometimes.result third c.sometimes.ensures.0
     c.in_ok-arg-4.ensures in
-    let fifth = one_more name _ (codes "session") c.in_ok-arg-4.field-0 c.in_ok-arg-5.field-0 c.one_session.result fourth c.one_session.ensures.0 c.in_ok-arg-5.ensures in
-    let sixth = one_more name _ (codes "max-states") c.in_ok-arg-5.field-0 c.in_ok-arg-6.field-0 c.max_states.result fifth c.max_states.ensures.named.0
-    c.in_ok-arg-6.ensures in
-    one_more_so name _ (codes "max-output") c.in_ok-arg-6.field-0 c.max_output.result c.arg-7.result sixth c.max_output.ensures.named.0 c.arg-7.ensures
+    let fifth = one_more name _ (codes "max-states") c.in_ok-arg-4.field-0 c.in_ok-arg-5.field-0 c.max_states.result fourth c.max_states.ensures.named.0
+    c.in_ok-arg-5.ensures in
+    one_more_so name _ (codes "max-output") c.in_ok-arg-5.field-0 c.max_output.result c.arg-6.result fifth c.max_output.ensures.named.0 c.arg-6.ensures
