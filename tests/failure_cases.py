@@ -115,7 +115,7 @@ def growing():
     for words in (["workers", "--n", "1"], ["replay", *EVERY_LINE]):
         yield words, every
     race = (EXAMPLES / "race.term").read_bytes()
-    shows = ["--shows", "{'$1','$2','$3',{'$4','$5','$6'}}", "--never", "{trace,'_',call,'_'}"]
+    shows = ["--shows", "{'$1','$2','$3',{'$4','$5','$6'}}", "--always", "{trace,'_',call,'_'}"]
     for words in (["explore", "--control", "first"], ["explore", "--after", "0*4 100*4"], ["explore", "--after", "0*4 100*4", *shows]):
         yield words, race
     spec = "[{['$1','$2'],[{'>','$2',3}],[{message,{{a,'$1'}}},\"text\"]},{'_',[],[{return_trace}]}]"
