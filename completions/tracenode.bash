@@ -72,7 +72,7 @@ _tracenode() {
                 words='--picks --picks-file --moves --moves-file --round --limit --control --text'
                 words+=' --expect --expect-line --reject-line --strict --max-output -h --help'
                 ;;
-            spec) words='--list --for --me --caller --json --file -h --help' ;;
+            spec) words='--list --for --me --caller --json --file --fun -h --help' ;;
             fun) words='--for --pretty -h --help' ;;
             explore) words='--after --control --order --session --shows --always --never --sometimes'
                 words+=' --max-states --max-output -h --help' ;;

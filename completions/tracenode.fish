@@ -102,6 +102,7 @@ complete -c tracenode -n '__fish_seen_subcommand_from spec' -l me -x -d 'The pro
 complete -c tracenode -n '__fish_seen_subcommand_from spec' -l caller -x -d 'The function that the call comes from'
 complete -c tracenode -n '__fish_seen_subcommand_from spec' -l file -r -d 'The file of the specification'
 complete -c tracenode -n '__fish_seen_subcommand_from spec' -l json -d 'Print JSON'
+complete -c tracenode -n '__fish_seen_subcommand_from spec' -l fun -d 'The specification is a fun'
 complete -c tracenode -n '__fish_seen_subcommand_from fun' -l for -x -a 'call send receive' -d 'What the specification is for'
 complete -c tracenode -n '__fish_seen_subcommand_from fun' -l pretty -d 'Print the fun of a specification'
 complete -c tracenode -n '__fish_seen_subcommand_from explore' -l after -x -d 'The moves with which all schedules begin'

@@ -266,6 +266,30 @@ def pretty_funs():
     check("the fun of a body for other events", ran.returncode == 2 and ran.stderr.startswith(b"specification: "), ran)
 
 
+# Lists on which the specifications of funs are tested.
+LISTS = ("[]", "[1]", "[a]", "[7,8]", "[a,{b,c}]")
+
+
+def tried_funs():
+    """`spec --fun` answers of a fun what `spec` answers of its specification; of one that is refused, what `fun` does."""
+    lists = [word for text in LISTS for word in ("--list", text)]
+    for fun, spec in FUNS:
+        for more in ([], ["--json"], ["--me", "101", "--caller", "{m,f,1}"]):
+            one, other = (run(["spec", *lists, *more, *words]) for words in (["--fun", fun], [spec]))
+            same = (one.returncode, one.stdout, one.stderr) == (other.returncode, other.stdout, other.stderr)
+            check(f"a trial of {fun} {more}", same, (one, other))
+    fun, spec = FUNS[0]
+    expected = run(["spec", "--list", "[1,2]", spec])
+    for words, text in (([], f"{fun}.\n"), (["-"], fun), (["--for", "call"], fun)):
+        ran = run(["spec", "--fun", "--list", "[1,2]", *words], text.encode())
+        check(f"a trial of a fun by {words}", ran.returncode == 0 and ran.stdout == expected.stdout, ran)
+    for marked, _ in REFUSED[:12]:
+        fun = marked.replace("^", "")
+        one, other = run(["spec", "--fun", "--list", "[1]"], fun.encode()), run(["fun"], fun.encode())
+        same = (one.returncode, one.stdout, one.stderr) == (other.returncode, other.stdout, other.stderr)
+        check(f"a trial of {marked[:80]}", same, (one, other))
+
+
 def fun_refusals():
     """Funs that have none, and the line that says why and where."""
     for marked, line in REFUSED:

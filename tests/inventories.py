@@ -199,19 +199,20 @@ def version():
 # The list that says what each command of the program takes, and the words that are no options.
 TAKEN = {
     "run": "RUN", "replay": "REPLAY", "round": "ROUND", "workers": "WORKERS", "explain": "EXPLAIN", "draw": "DRAW",
-    "spec": "TRIAL", "fun": "FUN_ARGUMENTS",
+    "spec": "TRIAL", "fun": "FUN_ARGUMENTS", "explore": "EXPLORE_ARGUMENTS",
 }
-BARE_WORDS = {"script", "specification", "fun"}
+BARE_WORDS = {"script", "specification"}
 
 
 def taken_options():
     """The options of each command, by the lists that the contracts of the command line name."""
     text = read(CRATES / "tn_line" / "specs" / "Line.antt")
     found = dict(re.findall(r"^([A-Z_]+) =((?:.*\n)(?:    .*\n)*)", text, re.M))
-    also = {"EXPECTATION": re.findall(r'codes "([^"]+)"', found["EXPECTATION"])}
+    named = {name: re.findall(r'codes "([^"]+)"', found[name]) for name in found}
     for command, name in TAKEN.items():
-        own = re.findall(r'codes "([^"]+)"', found[name])
-        yield command, {*own, *(also["EXPECTATION"] if "EXPECTATION" in found[name] else ())} - BARE_WORDS
+        parts = [part for part in ("EXPECTATION", "SCHEDULES") if part in found[name]]
+        taken = {*named[name], *(word for part in parts for word in named[part])}
+        yield command, taken - BARE_WORDS - ({"fun"} if command == "fun" else set())
 
 
 def completed_options(command):

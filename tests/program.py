@@ -68,6 +68,7 @@ SUBJECTS = {
     "fun": (
         fun_cases.fun_specifications,
         fun_cases.pretty_funs,
+        fun_cases.tried_funs,
         fun_cases.fun_refusals,
         fun_cases.fun_limits,
         fun_cases.fun_table,

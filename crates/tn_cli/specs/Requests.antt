@@ -161,6 +161,7 @@ IsTrialOf m t =
     × IsTextOf (argument m (codes "caller")) t.caller
     × IsTextOf (argument m (codes "specification")) t.specification
     × IsTextOf (argument m (codes "file")) t.file
+    × (t.fun ≡ is_given m (codes "fun"))
 
 -- the event that `--for` names, whether `--pretty` is given, and the text
 abbrev pub IsFunOf : ArgMatches → FunArgs → Type 0

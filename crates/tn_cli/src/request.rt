@@ -307,6 +307,7 @@ fn spec<'s, 'a: 's>(matches: &'s ArgMatches<'a>) -> Result<Request<'s>, BadValue
         caller: matches.get_str("caller"),
         specification: matches.get_str("specification"),
         file: matches.get_str("file"),
+        fun: flag(matches, "fun"),
     }))
 }
 

@@ -1,5 +1,5 @@
 //! The command `fun`: the specification of a fun's text on standard output, or its refusal; and the fun of a
-//! specification's text.
+//! specification's text. `spec --fun`: a trial of the specification of a fun.
 //!
 //! Depends on `tn_translation`, which answers a text, on `tn_fun_text` (funs of specifications), on `tn_run` and
 //! `tn_command` (ends and statuses) and on `tn_refusal` (lines and columns). Promises that the writer gains exactly
@@ -11,7 +11,9 @@
 mod command;
 mod notice;
 mod pretty;
+mod trial;
 
 pub use command::{answer_fun_over, print_fun};
 pub use notice::put_notice;
 pub use pretty::{answer_spec_over, print_fun_of_spec};
+pub use trial::test_fun;

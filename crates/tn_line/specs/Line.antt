@@ -125,7 +125,7 @@ WORKERS = codes "script" ∷ codes "n" ∷ codes "turns" ∷ codes "spread" ∷ 
 
 -- the arguments of `spec`
 abbrev pub TRIAL : List (List ℕ)
-TRIAL = codes "list" ∷ codes "for" ∷ codes "me" ∷ codes "caller" ∷ codes "json" ∷ codes "file" ∷ codes "specification" ∷ []
+TRIAL = codes "list" ∷ codes "for" ∷ codes "me" ∷ codes "caller" ∷ codes "json" ∷ codes "file" ∷ codes "fun" ∷ codes "specification" ∷ []
 
 -- the arguments of `fun`
 abbrev pub FUN_ARGUMENTS : List (List ℕ)

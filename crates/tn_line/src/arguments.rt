@@ -419,6 +419,16 @@ pub(crate) fn spec_file<'a>(alloc: Global) -> Result<Arg<'a>, AllocError>
         .conflicts_with("specification")
 }
 
+/// `--fun` of `spec`.
+pub(crate) fn of_fun<'a>(alloc: Global) -> Arg<'a>
+    ensures { IsFlag (codes "fun") result }
+{
+    Arg::new(alloc, "fun")
+        .long("fun")
+        .help("SPECIFICATION is a fun: its specification is tested")
+        .action(ArgAction::SetTrue)
+}
+
 /// The specification of `spec`.
 pub(crate) fn specification<'a>(alloc: Global) -> Arg<'a>
     ensures { IsWord (codes "specification") result }

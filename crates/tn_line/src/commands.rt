@@ -7,8 +7,8 @@ ghost use Rattle.tn_line.specs.Line.{RUN, REPLAY, EXPLAIN, DRAW, ROUND, WORKERS,
 
 use crate::arguments::{
     caller, control, event, expect, expect_line, expect_session, in_rounds, json, json_alone,
-    limit, list, max_output, move_number, moves, moves_file, node, one_of_picks, own_process,
-    picks, picks_file, picks_or_round, quiet, reject_line, script, session, spec_file,
+    limit, list, max_output, move_number, moves, moves_file, node, of_fun, one_of_picks,
+    own_process, picks, picks_file, picks_or_round, quiet, reject_line, script, session, spec_file,
     specification, spread, strict, summary, text, turns, without_picks, worker_count,
 };
 use crate::explore_command::explore;
@@ -183,7 +183,8 @@ fn workers<'a>(alloc: Global) -> Result<Command<'a>, AllocError>
     with_expectation(alloc, command)
 }
 
-/// The subcommand `spec --list TERM [--for EVENT] [--me N] [--caller TERM] [--json] [--file FILE] [SPECIFICATION]`.
+/// The subcommand `spec --list TERM [--for EVENT] [--me N] [--caller TERM] [--json] [--file FILE] [--fun]
+/// [SPECIFICATION]`.
 fn spec<'a>(alloc: Global) -> Result<Command<'a>, AllocError>
     ensures { IfOk result (IsCommand (codes "spec") TRIAL) }
 {
@@ -197,6 +198,7 @@ fn spec<'a>(alloc: Global) -> Result<Command<'a>, AllocError>
         .arg(caller(alloc))?
         .arg(json(alloc))?
         .arg(spec_file(alloc)?)?
+        .arg(of_fun(alloc))?
         .arg(specification(alloc))
 }
 

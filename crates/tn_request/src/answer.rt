@@ -28,7 +28,7 @@ use tn_command::{
     perform_over, print_over, test_specs,
 };
 use tn_expectation::Expectation;
-use tn_fun_command::{print_fun, print_fun_of_spec};
+use tn_fun_command::{print_fun, print_fun_of_spec, test_fun};
 use tn_run::RunFault;
 use tn_text::Watched;
 
@@ -140,6 +140,12 @@ pub fn answer_request<R: Input + Files + Print + Eprint + AllocGlobal + Threads 
     match request {
         Request::Run(run) => perform_request(rt, run, read, form, expectation),
         Request::Workers(workers) => run_workers_request(rt, workers, form, expectation),
+        Request::Spec(trial) if trial.fun => test_fun(
+            rt,
+            &spec_input_of(trial, read),
+            trial.lists,
+            form.format,
+        ),
         Request::Spec(trial) => test_specs(
             rt,
             &spec_input_of(trial, read),

@@ -45,6 +45,8 @@ pub struct SpecTestArgs<'a> {
     pub specification: Option<&'a str>,
     /// The file that has it.
     pub file: Option<&'a str>,
+    /// Whether it is a fun, whose specification is tested.
+    pub fun: bool,
 }
 
 /// The listing that an output must have, in the words of the command line.

@@ -14,4 +14,5 @@ returns c =
     let fourth = one_more name _ (codes "caller") c.in_ok-arg-3.field-0 c.in_ok-arg-4.field-0 c.caller.result third c.caller.ensures.0 c.in_ok-arg-4.ensures in
     let fifth = one_more name _ (codes "json") c.in_ok-arg-4.field-0 c.in_ok-arg-5.field-0 c.json.result fourth c.json.ensures.0 c.in_ok-arg-5.ensures in
     let sixth = one_more name _ (codes "file") c.in_ok-arg-5.field-0 c.in_ok-arg-6.field-0 c.in_ok-spec_file.field-0 fifth c.in_ok-spec_file.ensures.0 c.in_ok-arg-6.ensures in
-    one_more_so name _ (codes "specification") c.in_ok-arg-6.field-0 c.specification.result c.arg-7.result sixth c.specification.ensures.0 c.arg-7.ensures
+    let seventh = one_more name _ (codes "fun") c.in_ok-arg-6.field-0 c.in_ok-arg-7.field-0 c.of_fun.result sixth c.of_fun.ensures.0 c.in_ok-arg-7.ensures in
+    one_more_so name _ (codes "specification") c.in_ok-arg-7.field-0 c.specification.result c.arg-8.result seventh c.specification.ensures.0 c.arg-8.ensures
