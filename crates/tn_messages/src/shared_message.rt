@@ -2,7 +2,7 @@
 ghost use Rattle.std.specs.Prelude.{◌≡◌};
 ghost use Rattle.def_term.specs.Tree as Tree;
 ghost use Rattle.tn_term.specs.Views.{tree_of, trees_of};
-ghost use Rattle.tn_messages.specs.MessageViews.{message_process};
+ghost use Rattle.def_explore.specs.Rests.{is_of_process, process_of};
 
 use std::alloc::{AllocError, Allocator};
 use std::hash::{Hash, Hasher};
@@ -27,7 +27,7 @@ fn pid_in<A: Allocator>(term: &Term<A>) -> Option<u32>
 
 /// The number of the pid that is the second of some terms.
 fn second_pid<A: Allocator>(items: &[Term<A>]) -> Option<u32>
-    ensures { result ≡ message_process (Tree.tuple (trees_of items.now)) }
+    ensures { result ≡ process_of (Tree.tuple (trees_of items.now)) }
 {
     if items.len() < 2 {
         return None;
@@ -35,13 +35,23 @@ fn second_pid<A: Allocator>(items: &[Term<A>]) -> Option<u32>
     pid_in(&items[1])
 }
 
-/// The number of the pid that is the second element of a tuple.
-fn pid_of_message<A: Allocator>(term: &Term<A>) -> Option<u32>
-    ensures { result ≡ message_process (tree_of term.now) }
+/// The number of the pid that is the second element of a tuple: the process that a trace message is of.
+pub fn process_of<A: Allocator>(term: &Term<A>) -> Option<u32>
+    ensures { result ≡ process_of (tree_of term.now) }
 {
     match term {
         Term::Tuple(items) => second_pid(items),
         _ => None,
+    }
+}
+
+/// Whether a trace message is of the process with this pid.
+pub fn is_of_process<A: Allocator>(pid: u32, term: &Term<A>) -> bool
+    ensures { result ≡ is_of_process pid (tree_of term.now) }
+{
+    match process_of(term) {
+        Some(other) => other == pid,
+        None => false,
     }
 }
 
@@ -50,7 +60,8 @@ impl<A: Allocator> SharedMessage<A> {
     ghost use Rattle.def_term.specs.Text.{w};
     ghost use Rattle.tn_term.specs.Views.{tree_of};
     ghost use Rattle.tn_text.specs.WrittenTrees.{written_tree};
-    ghost use Rattle.tn_messages.specs.MessageViews.{message_process, message_tree};
+    ghost use Rattle.def_explore.specs.Rests.{process_of};
+    ghost use Rattle.tn_messages.specs.MessageViews.{message_tree};
 
     /// The message, which has one owner more.
     pub fn new(message: WrittenTerm<A>) -> SharedMessage<A>
@@ -84,9 +95,9 @@ impl<A: Allocator> SharedMessage<A> {
 
     /// The pid of the process that the message is of.
     pub fn pid(&self) -> Option<u32>
-        ensures { result ≡ message_process (message_tree self.now) }
+        ensures { result ≡ process_of (message_tree self.now) }
     {
-        pid_of_message(self.term())
+        process_of(self.term())
     }
 }
 
