@@ -1,0 +1,4 @@
+pub mod Traces
+pub mod Entries
+pub mod Laws
+pub mod Output

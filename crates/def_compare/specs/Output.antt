@@ -1,0 +1,85 @@
+-- The text of a comparison of a trace with all runs to rest (own).
+-- Depends on entries that show a trace, and on the text of terms, listings and picks.
+use Rattle.std.specs.Prelude.{◌==◌, ◌-◌, ℕ, Bool, true, false, if◌then◌else◌, List, [], ◌∷◌, ◌++◌, Option, Some, None, length, take, slice_get, filter, flat_map, codes, decimal}
+use Rattle.def_term.specs.Tree.{Tree, pid}
+use Rattle.def_term.specs.Names.{Name}
+use Rattle.def_term.specs.Text.{w}
+use Rattle.def_run.specs.Listing.{header_line}
+use Rattle.def_explore.specs.Rests.{KeptMessages, kept_messages, kept_by_process, process_of, is_of_process}
+use Rattle.def_explore.specs.Answers.{RestEntry}
+use Rattle.def_explore.specs.Output.{spaced_picks, closing_line, exploration_end_text}
+use Rattle.def_compare.specs.Traces.{TraceQuestion, lists_in, count_in}
+use Rattle.def_compare.specs.Entries.{Match, Prefix, possible_by, longest_prefix}
+
+-- ---- what the run has in the place of a message
+
+-- the partner of a pid
+abbrev pub partner_of : List (ℕ × ℕ) → ℕ → Option ℕ
+partner_of [] n = None
+partner_of (p ∷ ps) n = if p.0 == n then Some p.1 else partner_of ps n
+
+-- the messages that are kept of a process
+abbrev pub messages_of : KeptMessages → ℕ → List Tree
+messages_of kept n = filter (is_of_process n) (flat_map (λ ms. ms) (lists_in kept))
+
+-- the message that the partner of a process has after so many
+abbrev pub message_after : KeptMessages → Option ℕ → ℕ → Option Tree
+message_after kept None n = None
+message_after kept (Some m) n = slice_get (messages_of kept m) n
+
+-- the partner of the process that a message is of
+abbrev pub partner_in : List (ℕ × ℕ) → Option ℕ → Option ℕ
+partner_in ps None = None
+partner_in ps (Some n) = partner_of ps n
+
+-- how many of these messages are of the process that a message is of
+abbrev pub count_with : List Tree → Option ℕ → ℕ
+count_with ms None = 0
+count_with ms (Some n) = length (filter (is_of_process n) ms)
+
+-- what is kept in the place of a message that comes after these
+abbrev pub message_there : KeptMessages → List (ℕ × ℕ) → List Tree → Tree → Option Tree
+message_there (kept_messages mss) ps before m = slice_get (flat_map (λ ms. ms) mss) (length before)
+message_there (kept_by_process psss) ps before m = message_after (kept_by_process psss) (partner_in ps (process_of m)) (count_with before (process_of m))
+
+-- ---- lines
+
+-- <0.84.0> is <0.100.0>
+abbrev pub pair_line : ℕ × ℕ → List ℕ
+pair_line p = w (pid p.0) ++ codes " is " ++ w (pid p.1) ++ 10 ∷ []
+
+-- the run that shows the trace, and which pids are which
+abbrev pub possible_text : Match → List ℕ
+possible_text m = codes "possible: journal" ++ spaced_picks m.entry.journal ++ 10 ∷ flat_map pair_line m.pairs
+
+-- the message, or that there is none
+abbrev pub there_line : Option Tree → List ℕ
+there_line (Some t) = codes "there: " ++ w t ++ 10 ∷ []
+there_line None = codes "there: no message\n"
+
+-- the first message that the run doesn't have, and what it has there; where it has all, how many it has beside them
+abbrev pub difference_text : TraceQuestion → Prefix → Option Tree → List ℕ
+difference_text a f (Some t) = codes "not there: " ++ w t ++ 10 ∷ there_line (message_there f.by.entry.kept f.by.pairs (take f.count a.messages) t)
+difference_text a f None = codes "not in the trace: " ++ decimal (count_in f.by.entry.kept - f.count) ++ codes " more\n"
+
+-- whether all states were tried
+abbrev pub no_match_word : Bool → List ℕ
+no_match_word true = codes "impossible"
+no_match_word false = codes "unknown"
+
+-- the longest prefix, the run that begins with it, and where the two differ
+abbrev pub prefix_text : TraceQuestion → Bool → Option Prefix → List ℕ
+prefix_text a whole None = no_match_word whole ++ codes ": no run to rest was met\n"
+prefix_text a whole (Some f) =
+    no_match_word whole ++ codes ": the longest prefix is " ++ decimal f.count ++ codes " of " ++ exploration_end_text (length a.messages) (codes "message") ++ codes ": journal"
+    ++ spaced_picks f.by.entry.journal ++ 10 ∷ flat_map pair_line f.by.pairs ++ difference_text a f (slice_get a.messages f.count)
+
+-- the run that shows the trace, or the longest prefix
+abbrev pub match_text : TraceQuestion → List RestEntry → Bool → Option Match → List ℕ
+match_text a es whole (Some m) = possible_text m
+match_text a es whole None = prefix_text a whole (longest_prefix a.messages es (length a.messages))
+
+-- the sessions, the answer, and what was explored
+abbrev pub comparison_text : List (Name × Name) → TraceQuestion → List RestEntry → ℕ → Bool → List ℕ
+comparison_text ss a es states whole =
+    flat_map (λ s. header_line s.0 s.1) ss ++ match_text a es whole (possible_by a es) ++ codes "== explored\n" ++ closing_line states (length es) whole
