@@ -57,10 +57,14 @@ abbrev pub there_line : Option Tree → List ℕ
 there_line (Some t) = codes "there: " ++ w t ++ 10 ∷ []
 there_line None = codes "there: no message\n"
 
+-- how many messages the run has beside those of the trace
+abbrev pub more_line : Prefix → List ℕ
+more_line f = codes "not in the trace: " ++ decimal (count_in f.by.entry.kept - f.count) ++ codes " more\n"
+
 -- the first message that the run doesn't have, and what it has there; where it has all, how many it has beside them
 abbrev pub difference_text : TraceQuestion → Prefix → Option Tree → List ℕ
 difference_text a f (Some t) = codes "not there: " ++ w t ++ 10 ∷ there_line (message_there f.by.entry.kept f.by.pairs (take f.count a.messages) t)
-difference_text a f None = codes "not in the trace: " ++ decimal (count_in f.by.entry.kept - f.count) ++ codes " more\n"
+difference_text a f None = more_line f
 
 -- whether all states were tried
 abbrev pub no_match_word : Bool → List ℕ
@@ -68,11 +72,15 @@ no_match_word true = codes "impossible"
 no_match_word false = codes "unknown"
 
 -- the longest prefix, the run that begins with it, and where the two differ
+abbrev pub longest_text : TraceQuestion → Prefix → List ℕ
+longest_text a f =
+    codes ": the longest prefix is " ++ decimal f.count ++ codes " of " ++ exploration_end_text (length a.messages) (codes "message") ++ codes ": journal"
+    ++ spaced_picks f.by.entry.journal ++ 10 ∷ flat_map pair_line f.by.pairs ++ difference_text a f (slice_get a.messages f.count)
+
+-- those of a prefix, where some run was met
 abbrev pub prefix_text : TraceQuestion → Bool → Option Prefix → List ℕ
 prefix_text a whole None = no_match_word whole ++ codes ": no run to rest was met\n"
-prefix_text a whole (Some f) =
-    no_match_word whole ++ codes ": the longest prefix is " ++ decimal f.count ++ codes " of " ++ exploration_end_text (length a.messages) (codes "message") ++ codes ": journal"
-    ++ spaced_picks f.by.entry.journal ++ 10 ∷ flat_map pair_line f.by.pairs ++ difference_text a f (slice_get a.messages f.count)
+prefix_text a whole (Some f) = no_match_word whole ++ longest_text a f
 
 -- the run that shows the trace, or the longest prefix
 abbrev pub match_text : TraceQuestion → List RestEntry → Bool → Option Match → List ℕ

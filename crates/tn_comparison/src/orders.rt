@@ -4,7 +4,7 @@ ghost use Rattle.def_compare.specs.Traces.{orders_in, processes_in, with_process
 ghost use Rattle.def_explore.specs.Rests.{is_of_process, process_of};
 ghost use Rattle.tn_comparison.specs.Orders.{AreTraceOrders};
 ghost use Rattle.tn_messages.specs.MessageViews.{kept_seen};
-ghost use Rattle.tn_renaming.specs.Pairs.{term_seen, terms_seen};
+ghost use Rattle.tn_renaming.specs.Pairs.{lent_term_seen, lent_terms_seen};
 ghost use Rattle.tn_term.specs.Views.{tree_of};
 
 use crate::lists::TermList;
@@ -55,7 +55,7 @@ pub(crate) fn all_of<'m, P: Allocator, A: Allocator + Copy>(
     alloc: A,
     messages: &'m [Term<P>],
 ) -> Result<TermList<'m, P, A>, AllocError>
-    ensures { IfOk result (λ v. terms_seen v ≡ map tree_of messages.now) }
+    ensures { IfOk result (λ v. lent_terms_seen v ≡ map tree_of messages.now) }
 {
     let mut terms = Vec::with_capacity(alloc, messages.len())?;
     for message in messages {
@@ -70,8 +70,8 @@ fn add_message<'m, P: Allocator, A: Allocator>(
     message: &'m Term<P>,
     terms: &mut TermList<'m, P, A>,
 ) -> Result<(), AllocError>
-    ensures { OnOk result (terms_seen terms.new ≡
-        terms_seen terms.old ++ filter (is_of_process pid) (tree_of message.now ∷ [])) }
+    ensures { OnOk result (lent_terms_seen terms.new ≡
+        lent_terms_seen terms.old ++ filter (is_of_process pid) (tree_of message.now ∷ [])) }
 {
     if !is_of_process(pid, message) {
         return Ok(());
@@ -86,7 +86,7 @@ pub(crate) fn messages_of<'m, P: Allocator, A: Allocator + Copy>(
     pid: u32,
     messages: &[&'m Term<P>],
 ) -> Result<TermList<'m, P, A>, AllocError>
-    ensures { IfOk result (λ v. terms_seen v ≡ filter (is_of_process pid) (map term_seen messages.now)) }
+    ensures { IfOk result (λ v. lent_terms_seen v ≡ filter (is_of_process pid) (map lent_term_seen messages.now)) }
 {
     let mut terms = Vec::new(alloc);
     for message in messages {
@@ -101,8 +101,8 @@ fn messages_of_each<'m, P: Allocator, A: Allocator + Copy>(
     processes: &[u32],
     messages: &[&'m Term<P>],
 ) -> Result<Vec<TermList<'m, P, A>, A>, AllocError>
-    ensures { let ms = map term_seen messages.now in
-        IfOk result (λ v. map terms_seen v.items ≡ map (λ n. filter (is_of_process n) ms) processes.now) }
+    ensures { let ms = map lent_term_seen messages.now in
+        IfOk result (λ v. map lent_terms_seen v.items ≡ map (λ n. filter (is_of_process n) ms) processes.now) }
 {
     let mut orders = Vec::with_capacity(alloc, processes.len())?;
     for pid in processes {
@@ -117,7 +117,7 @@ impl<'m, P: Allocator, A: Allocator + Copy> TraceOrders<'m, P, A> {
     ghost use Rattle.def_compare.specs.Traces.{orders_in};
     ghost use Rattle.tn_comparison.specs.Orders.{AreTraceOrders};
     ghost use Rattle.tn_messages.specs.MessageViews.{kept_seen};
-    ghost use Rattle.tn_renaming.specs.Pairs.{terms_seen};
+    ghost use Rattle.tn_renaming.specs.Pairs.{lent_terms_seen};
     ghost use Rattle.tn_term.specs.Views.{tree_of};
 
     /// Those of some messages.
@@ -135,7 +135,7 @@ impl<'m, P: Allocator, A: Allocator + Copy> TraceOrders<'m, P, A> {
     /// Those that are in an order as what is kept is.
     pub(crate) fn like(&self, kept: &KeptListings<A>) -> &[TermList<'m, P, A>]
         ensures { (ms : List Tree) → AreTraceOrders ms self.now →
-            map terms_seen result.now ≡ orders_in (kept_seen kept.now) ms }
+            map lent_terms_seen result.now ≡ orders_in (kept_seen kept.now) ms }
     {
         match kept {
             KeptListings::Total(_) => &self.all,

@@ -5,7 +5,7 @@ ghost use Rattle.def_compare.specs.Output.{count_with, message_after, message_th
 ghost use Rattle.def_compare.specs.Traces.{count_in, lists_in};
 ghost use Rattle.def_explore.specs.Rests.{is_of_process, process_of};
 ghost use Rattle.tn_messages.specs.MessageViews.{kept_seen};
-ghost use Rattle.tn_renaming.specs.Pairs.{pair_seen, term_seen, terms_seen};
+ghost use Rattle.tn_renaming.specs.Pairs.{pair_seen, lent_term_seen, lent_terms_seen};
 ghost use Rattle.tn_term.specs.Views.{tree_of};
 
 use crate::lists::{TermList, all_in, lists_in};
@@ -20,7 +20,7 @@ fn all_kept<'e, A: Allocator + Copy>(
     alloc: A,
     kept: &'e KeptListings<A>,
 ) -> Result<TermList<'e, A, A>, AllocError>
-    ensures { IfOk result (λ v. terms_seen v ≡ flat_map (λ ms. ms) (lists_in (kept_seen kept.now))) }
+    ensures { IfOk result (λ v. lent_terms_seen v ≡ flat_map (λ ms. ms) (lists_in (kept_seen kept.now))) }
 {
     let lists = lists_in(alloc, kept)?;
     let all = all_in(alloc, &lists)?;
@@ -69,7 +69,7 @@ fn message_of<'e, A: Allocator + Copy>(
     pid: u32,
     place: usize,
 ) -> Result<Option<&'e Term<A>>, AllocError>
-    ensures { IfOk result (λ o. option_map term_seen o ≡ slice_get (messages_of (kept_seen kept.now) pid) place) }
+    ensures { IfOk result (λ o. option_map lent_term_seen o ≡ slice_get (messages_of (kept_seen kept.now) pid) place) }
 {
     let all = all_kept(alloc, kept)?;
     let messages = messages_of(alloc, pid, &all)?;
@@ -83,7 +83,7 @@ fn message_at<'e, A: Allocator + Copy>(
     place: usize,
 ) -> Result<Option<&'e Term<A>>, AllocError>
     ensures { let ms = flat_map (λ ms. ms) (lists_in (kept_seen kept.now)) in
-        IfOk result (λ o. option_map term_seen o ≡ slice_get ms place) }
+        IfOk result (λ o. option_map lent_term_seen o ≡ slice_get ms place) }
 {
     let all = all_kept(alloc, kept)?;
     Ok(all.get(place).copied())
@@ -100,7 +100,7 @@ fn message_of_partner<'e, P: Allocator, A: Allocator + Copy>(
     ensures { let process = process_of (tree_of message.now) in
         let partner = partner_in (map pair_seen pairs.now) process in
         let count = count_with (map tree_of before.now) process in
-        IfOk result (λ o. option_map term_seen o ≡ message_after (kept_seen kept.now) partner count) }
+        IfOk result (λ o. option_map lent_term_seen o ≡ message_after (kept_seen kept.now) partner count) }
 {
     let Some(pid) = process_of(message) else {
         return Ok(None);
@@ -125,7 +125,7 @@ pub fn message_there<'e, P: Allocator, A: Allocator + Copy>(
     message: &Term<P>,
 ) -> Result<Option<&'e Term<A>>, AllocError>
     ensures { let ps = map pair_seen pairs.now in let ms = map tree_of before.now in IfOk result (λ o.
-        option_map term_seen o ≡ message_there (kept_seen kept.now) ps ms (tree_of message.now)) }
+        option_map lent_term_seen o ≡ message_there (kept_seen kept.now) ps ms (tree_of message.now)) }
 {
     match kept {
         KeptListings::Total(_) => message_at(alloc, kept, before.len()),
