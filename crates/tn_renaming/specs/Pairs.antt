@@ -1,0 +1,27 @@
+-- What the code's values stand for: pairs of pids, and terms that are lent.
+-- Depends on renamings.
+use Rattle.std.specs.Prelude.{◌≡◌, ℕ, Bool, if◌then◌else◌, List, ◌++◌, map, Option, Some, None}
+use Rattle.std.specs.Borrow.{Bor}
+use Rattle.std.specs.declared.vec.Vec.{Vec}
+use Rattle.def_term.specs.Tree.{Tree}
+use Rattle.tn_term.specs.Views.{tree_of}
+use Rattle.tn_term.specs.declared.term.Term.{Term}
+use Rattle.tn_renaming.specs.declared.pairs.PidPair.{PidPair}
+
+abbrev pub pair_seen : PidPair → ℕ × ℕ
+pair_seen p = (p.there, p.here)
+
+abbrev pub pairs_seen : {A : Type 0} → Vec PidPair A → List (ℕ × ℕ)
+pairs_seen v = map pair_seen v.items
+
+abbrev pub term_seen : {A : Type 0} → Bor (Term A) → Tree
+term_seen t = tree_of t.now
+
+abbrev pub terms_seen : {A B : Type 0} → Vec (Bor (Term A)) B → List Tree
+terms_seen v = map term_seen v.items
+
+-- the pairs after a match are what it gives; where it gives nothing, they are those before it and more
+pub record LeavesPairs (old : List (ℕ × ℕ)) (gives : Option (List (ℕ × ℕ))) (found : Bool) (new : List (ℕ × ℕ)) : Type 0 where
+  pub is : gives ≡ (if found then Some new else None)
+  pub more : List (ℕ × ℕ)
+  pub kept : new ≡ old ++ more
