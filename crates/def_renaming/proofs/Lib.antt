@@ -1,1 +1,5 @@
+mod Lists
+mod Pairs
+mod Terms
+mod Search
 mod Rows

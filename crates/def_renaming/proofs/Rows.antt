@@ -1,5 +1,5 @@
 -- Worked rows, computed: groups of messages of a trace, and what a run shows.
-use Rattle.std.proofs.Common.{◌≡◌, ℕ, List, [], ◌∷◌, Some, None, codes, refl}
+use Rattle.std.proofs.Common.{◌≡◌, ℕ, List, [], ◌∷◌, Some, None, refl}
 use Rattle.def_term.specs.Tree.{Tree, pid, tuple, list, of_elements, none}
 use Rattle.def_term.specs.Names.{word}
 use Rattle.def_renaming.specs.Renaming.{joined, begun, renamings, first_renaming}
