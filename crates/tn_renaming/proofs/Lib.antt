@@ -1,0 +1,3 @@
+pub mod Matches
+mod TermMatches
+mod Searches

@@ -1,6 +1,6 @@
 // Pairs of pids.
 ghost use Rattle.std.specs.Prelude.{◌≡◌, IfOk, find, map, option_map};
-ghost use Rattle.def_renaming.specs.Renaming.{has_either, joined};
+ghost use Rattle.def_renaming.specs.Renaming.{has_either, is_pair, joined};
 ghost use Rattle.tn_renaming.specs.Pairs.{LeavesPairs, pair_seen, pairs_seen};
 
 use std::alloc::{AllocError, Allocator};
@@ -12,12 +12,26 @@ pub struct PidPair {
     pub here: u32,
 }
 
+/// Whether the pair has one of the two pids, on its side.
+fn has_either(pair: PidPair, there: u32, here: u32) -> bool
+    ensures { result ≡ has_either there here (pair_seen pair) }
+{
+    pair.there == there || pair.here == here
+}
+
+/// Whether it is the pair of these two pids.
+fn is_pair(pair: PidPair, there: u32, here: u32) -> bool
+    ensures { result ≡ is_pair there here (pair_seen pair) }
+{
+    pair.there == there && pair.here == here
+}
+
 /// The first pair that has one of the two pids, on its side.
 fn pair_with(pairs: &[PidPair], there: u32, here: u32) -> Option<PidPair>
     ensures { option_map pair_seen result ≡ find (has_either there here) (map pair_seen pairs.now) }
 {
     for pair in pairs {
-        if pair.there == there || pair.here == here {
+        if has_either(*pair, there, here) {
             return Some(*pair);
         }
     }
@@ -34,7 +48,7 @@ pub(crate) fn join<A: Allocator>(
         IfOk result (λ b. LeavesPairs old (joined old there here) b (pairs_seen pairs.new)) }
 {
     match pair_with(pairs.as_slice(), there, here) {
-        Some(pair) => Ok(pair.there == there && pair.here == here),
+        Some(pair) => Ok(is_pair(pair, there, here)),
         None => {
             pairs.push(PidPair { there, here })?;
             Ok(true)

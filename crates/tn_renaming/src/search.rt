@@ -1,7 +1,7 @@
 // The search for pairs of pids.
-ghost use Rattle.std.specs.Prelude.{◌≡◌, IfOk, [], ◌∷◌, map, option_map, slice_get};
-ghost use Rattle.def_renaming.specs.Renaming.{first_renaming, renamings};
-ghost use Rattle.tn_renaming.specs.Pairs.{LeavesPairs, pairs_seen, terms_seen};
+ghost use Rattle.std.specs.Prelude.{◌≡◌, IfOk, [], ◌∷◌, map, option_map, option_to_list};
+ghost use Rattle.def_renaming.specs.Renaming.{begun, first_renaming};
+ghost use Rattle.tn_renaming.specs.Pairs.{LeavesPairs, first_from, pairs_seen, term_seen, terms_seen};
 
 use crate::pairs::PidPair;
 use crate::terms::match_beginning;
@@ -9,26 +9,49 @@ use std::alloc::{AllocError, Allocator};
 use tn_term::Term;
 
 /// Adds the pairs by which each group is the beginning of a list. Says whether there are such.
+#[cycle(search)]
 fn extend_pairs<A: Allocator, B: Allocator, C: Allocator>(
     pairs: &mut Vec<PidPair, A>,
     groups: &[Vec<&Term<B>, A>],
     lists: &[Vec<&Term<C>, A>],
 ) -> Result<bool, AllocError>
     ensures { let old = pairs_seen pairs.old in
-        let all = renamings (map terms_seen groups.now) (map terms_seen lists.now) (old ∷ []) in
-        IfOk result (λ b. LeavesPairs old (slice_get all 0) b (pairs_seen pairs.new)) }
+        let first = first_from (map terms_seen groups.now) (map terms_seen lists.now) (old ∷ []) in
+        IfOk result (λ b. LeavesPairs old first b (pairs_seen pairs.new)) }
 {
     let Some((group, rest)) = groups.split_first() else {
         return Ok(true);
     };
     let before = pairs.len();
     for list in lists {
-        if match_beginning(pairs, group, list)? && extend_pairs(pairs, rest, lists)? {
+        let found = extend_by_list(pairs, group.as_slice(), list.as_slice(), rest, lists)?;
+        if found {
             return Ok(true);
         }
         pairs.truncate(before);
     }
     Ok(false)
+}
+
+/// Adds the pairs by which a group is the beginning of this list, and each of the rest that of a list.
+#[cycle(search)]
+fn extend_by_list<A: Allocator, B: Allocator, C: Allocator>(
+    pairs: &mut Vec<PidPair, A>,
+    group: &[&Term<B>],
+    list: &[&Term<C>],
+    rest: &[Vec<&Term<B>, A>],
+    lists: &[Vec<&Term<C>, A>],
+) -> Result<bool, AllocError>
+    ensures { let old = pairs_seen pairs.old in
+        let made = option_to_list (begun old (map term_seen group.now) (map term_seen list.now)) in
+        let first = first_from (map terms_seen rest.now) (map terms_seen lists.now) made in
+        IfOk result (λ b. LeavesPairs old first b (pairs_seen pairs.new)) }
+{
+    let found = match_beginning(pairs, group, list)?;
+    if !found {
+        return Ok(false);
+    }
+    extend_pairs(pairs, rest, lists)
 }
 
 /// The first pairs of pids, one to one, by which each group of messages of a trace is the beginning of one of the lists
@@ -46,9 +69,6 @@ pub fn first_renaming<A: Allocator + Copy, B: Allocator, C: Allocator>(
         first_renaming (map terms_seen groups.now) (map terms_seen lists.now)) }
 {
     let mut pairs = Vec::new(alloc);
-    if extend_pairs(&mut pairs, groups, lists)? {
-        Ok(Some(pairs))
-    } else {
-        Ok(None)
-    }
+    let found = extend_pairs(&mut pairs, groups, lists)?;
+    if found { Ok(Some(pairs)) } else { Ok(None) }
 }

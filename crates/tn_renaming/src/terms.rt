@@ -16,7 +16,8 @@ fn match_term<A: Allocator, B: Allocator, C: Allocator>(
     here: &Term<C>,
 ) -> Result<bool, AllocError>
     ensures { let old = pairs_seen pairs.old in
-        IfOk result (λ b. LeavesPairs old (matched old (tree_of there.now) (tree_of here.now)) b (pairs_seen pairs.new)) }
+        IfOk result (λ b. LeavesPairs old (matched old (tree_of there.now) (tree_of here.now)) b
+        (pairs_seen pairs.new)) }
 {
     match (there, here) {
         (Term::Int(m), Term::Int(n)) => Ok(*m == *n),
@@ -28,7 +29,7 @@ fn match_term<A: Allocator, B: Allocator, C: Allocator>(
     }
 }
 
-/// The same for the elements of a tuple or list.
+/// The same for the elements of two tuples or lists.
 #[cycle(matching)]
 fn match_terms<A: Allocator, B: Allocator, C: Allocator>(
     pairs: &mut Vec<PidPair, A>,
@@ -43,14 +44,15 @@ fn match_terms<A: Allocator, B: Allocator, C: Allocator>(
         return Ok(false);
     }
     for i in 0..there.len() {
-        if !match_term(pairs, &there[i], &here[i])? {
+        let found = match_term(pairs, &there[i], &here[i])?;
+        if !found {
             return Ok(false);
         }
     }
     Ok(true)
 }
 
-/// The same for messages of a group and the first ones of a list, which may have more.
+/// The same for the messages of a group and the first ones of a list, which may have more.
 pub(crate) fn match_beginning<A: Allocator, B: Allocator, C: Allocator>(
     pairs: &mut Vec<PidPair, A>,
     there: &[&Term<B>],
@@ -64,7 +66,8 @@ pub(crate) fn match_beginning<A: Allocator, B: Allocator, C: Allocator>(
         return Ok(false);
     }
     for i in 0..there.len() {
-        if !match_term(pairs, there[i], here[i])? {
+        let found = match_term(pairs, there[i], here[i])?;
+        if !found {
             return Ok(false);
         }
     }
