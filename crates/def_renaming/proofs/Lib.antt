@@ -1,5 +1,5 @@
 mod Lists
 mod Pairs
 mod Terms
-mod Search
+pub mod Search
 mod Rows

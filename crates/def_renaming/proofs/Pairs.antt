@@ -5,7 +5,7 @@ use Rattle.std.proofs.lemmas.List.{get_or_default}
 use Rattle.std.proofs.lemmas.List.Elements.{Contains-get_or, Contains-append_left, Contains-push, Contains-push_cases}
 use Rattle.std.proofs.lemmas.List.Quantifiers.{all_pairs_push}
 use Rattle.std.proofs.lemmas.Option.{cond_some}
-use Rattle.def_renaming.specs.Renaming.{IsOneToOne, is_pair, has_either, joined, joined_by}
+use Rattle.def_renaming.specs.Renaming.{IsOneToOne, is_pair, has_either, with_pair, with_pair_by}
 use Rattle.def_renaming.specs.Laws.{HasPairsOf}
 use Rattle.def_renaming.proofs.Lists.{found, none_found}
 
@@ -64,7 +64,7 @@ pushed_one ps m n none one =
       here = all_pairs_push (λ p q. p.1 ≢ q.1) ps (m, n) one.here (λ k d below. eqb-false (get_or ps k d).1 n (or_parts ((get_or ps k d).0 == m) ((get_or ps k d).1 == n) (apart k d below)).1);
     }
 
-joined_by_sound : (ps qs : List (ℕ × ℕ)) (m n : ℕ) (o : Option (ℕ × ℕ)) → find (has_either m n) ps ≡ o → joined_by ps m n o ≡ Some qs → IsMore ps qs m n
+joined_by_sound : (ps qs : List (ℕ × ℕ)) (m n : ℕ) (o : Option (ℕ × ℕ)) → find (has_either m n) ps ≡ o → with_pair_by ps m n o ≡ Some qs → IsMore ps qs m n
 joined_by_sound ps qs m n None f e =
     let same : ps ++ (m, n) ∷ [] ≡ qs = cc in
     subst (λ xs. IsMore ps xs m n) same (record {
@@ -80,11 +80,11 @@ joined_by_sound ps qs m n (Some p) f e =
       new = subst (Contains ps) (is_pair-true m n p both.0) (found (has_either m n) ps p f).0;
     })
 
-pub joined_sound : (ps qs : List (ℕ × ℕ)) (m n : ℕ) → joined ps m n ≡ Some qs → IsMore ps qs m n
+pub joined_sound : (ps qs : List (ℕ × ℕ)) (m n : ℕ) → with_pair ps m n ≡ Some qs → IsMore ps qs m n
 joined_sound ps qs m n e = joined_by_sound ps qs m n (find (has_either m n) ps) refl e
 
 joined_by_least : (ps rs : List (ℕ × ℕ)) (m n : ℕ) (o : Option (ℕ × ℕ)) → find (has_either m n) ps ≡ o → IsOneToOne rs → HasPairsOf rs ps → Contains rs (m, n)
-    → (qs : List (ℕ × ℕ)) × (joined_by ps m n o ≡ Some qs) × HasPairsOf rs qs
+    → (qs : List (ℕ × ℕ)) × (with_pair_by ps m n o ≡ Some qs) × HasPairsOf rs qs
 joined_by_least ps rs m n None f one has new =
     (ps ++ (m, n) ∷ [], refl, λ p h. elim (Contains-push_cases ps (m, n) p h) [ inl old ↦ has p old | inr same ↦ subst (Contains rs) same new ])
 joined_by_least ps rs m n (Some p) f one has new =
@@ -92,5 +92,5 @@ joined_by_least ps rs m n (Some p) f one has new =
     (ps, cond-true (is_pair m n p) (Some ps) None (pair-is_pair m n p (one_partner rs p m n one (has p at.0) new at.1)), has)
 
 pub joined_least : (ps rs : List (ℕ × ℕ)) (m n : ℕ) → IsOneToOne rs → HasPairsOf rs ps → Contains rs (m, n)
-    → (qs : List (ℕ × ℕ)) × (joined ps m n ≡ Some qs) × HasPairsOf rs qs
+    → (qs : List (ℕ × ℕ)) × (with_pair ps m n ≡ Some qs) × HasPairsOf rs qs
 joined_least ps rs m n one has new = joined_by_least ps rs m n (find (has_either m n) ps) refl one has new

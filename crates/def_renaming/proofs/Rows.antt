@@ -2,7 +2,7 @@
 use Rattle.std.proofs.Common.{◌≡◌, ℕ, List, [], ◌∷◌, Some, None, refl}
 use Rattle.def_term.specs.Tree.{Tree, pid, tuple, list, of_elements, none}
 use Rattle.def_term.specs.Names.{word}
-use Rattle.def_renaming.specs.Renaming.{joined, begun, renamings, first_renaming}
+use Rattle.def_renaming.specs.Renaming.{with_pair, with_beginning_pairs, renamings, first_renaming}
 
 -- {trace,From,send,hello,To}
 abbrev sends : ℕ → ℕ → Tree
@@ -15,47 +15,47 @@ exits n = tuple (of_elements (word "trace" ∷ pid n ∷ word "exit" ∷ word "n
 -- ---- pairs
 
 -- a new pair comes at the end
-new_pair : joined ((84, 100) ∷ []) 85 101 ≡ Some ((84, 100) ∷ (85, 101) ∷ [])
+new_pair : with_pair ((84, 100) ∷ []) 85 101 ≡ Some ((84, 100) ∷ (85, 101) ∷ [])
 new_pair = refl
 
 -- one that is there changes nothing
-pair_that_is_there : joined ((84, 100) ∷ (85, 101) ∷ []) 84 100 ≡ Some ((84, 100) ∷ (85, 101) ∷ [])
+pair_that_is_there : with_pair ((84, 100) ∷ (85, 101) ∷ []) 84 100 ≡ Some ((84, 100) ∷ (85, 101) ∷ [])
 pair_that_is_there = refl
 
 -- neither side has two partners
-two_partners_here : joined ((84, 100) ∷ []) 84 101 ≡ None
+two_partners_here : with_pair ((84, 100) ∷ []) 84 101 ≡ None
 two_partners_here = refl
 
-two_partners_there : joined ((84, 100) ∷ []) 85 100 ≡ None
+two_partners_there : with_pair ((84, 100) ∷ []) 85 100 ≡ None
 two_partners_there = refl
 
 -- a number may be one of both sides
-same_number : joined ((100, 101) ∷ []) 101 100 ≡ Some ((100, 101) ∷ (101, 100) ∷ [])
+same_number : with_pair ((100, 101) ∷ []) 101 100 ≡ Some ((100, 101) ∷ (101, 100) ∷ [])
 same_number = refl
 
 -- ---- one group
 
 -- the run may go on
-longer_run : begun [] (sends 84 85 ∷ []) (sends 100 101 ∷ exits 100 ∷ []) ≡ Some ((84, 100) ∷ (85, 101) ∷ [])
+longer_run : with_beginning_pairs [] (sends 84 85 ∷ []) (sends 100 101 ∷ exits 100 ∷ []) ≡ Some ((84, 100) ∷ (85, 101) ∷ [])
 longer_run = refl
 
 -- the trace may not
-shorter_run : begun [] (sends 84 85 ∷ exits 84 ∷ []) (sends 100 101 ∷ []) ≡ None
+shorter_run : with_beginning_pairs [] (sends 84 85 ∷ exits 84 ∷ []) (sends 100 101 ∷ []) ≡ None
 shorter_run = refl
 
 -- 84 sends to 85, and 85 exits: not 100
-another_process : begun [] (sends 84 85 ∷ exits 85 ∷ []) (sends 100 101 ∷ exits 100 ∷ []) ≡ None
+another_process : with_beginning_pairs [] (sends 84 85 ∷ exits 85 ∷ []) (sends 100 101 ∷ exits 100 ∷ []) ≡ None
 another_process = refl
 
 -- a process that sends to itself isn't one that sends to another
-to_itself : begun [] (sends 84 84 ∷ []) (sends 100 101 ∷ []) ≡ None
+to_itself : with_beginning_pairs [] (sends 84 84 ∷ []) (sends 100 101 ∷ []) ≡ None
 to_itself = refl
 
-to_another : begun [] (sends 84 85 ∷ []) (sends 100 100 ∷ []) ≡ None
+to_another : with_beginning_pairs [] (sends 84 85 ∷ []) (sends 100 100 ∷ []) ≡ None
 to_another = refl
 
 -- a tuple is no list
-another_kind : begun [] (tuple none ∷ []) (list none ∷ []) ≡ None
+another_kind : with_beginning_pairs [] (tuple none ∷ []) (list none ∷ []) ≡ None
 another_kind = refl
 
 -- ---- groups

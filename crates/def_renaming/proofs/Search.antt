@@ -2,7 +2,7 @@
 use Rattle.std.proofs.Common.{◌≡◌, sym, subst, ℕ, List, [], ◌∷◌, Any, Contains, flat_map, option_to_list, Option, Some, None, arith}
 use Rattle.std.proofs.lemmas.List.Elements.{All-nil, All-cons, All-head, All-tail}
 use Rattle.def_term.specs.Tree.{Tree}
-use Rattle.def_renaming.specs.Renaming.{IsOneToOne, IsRenamedBeginning, HaveRenamedBeginnings, begun, renamings_of, renamings}
+use Rattle.def_renaming.specs.Renaming.{IsOneToOne, IsRenamedBeginning, HaveRenamedBeginnings, with_beginning_pairs, renamings_of, renamings}
 use Rattle.def_renaming.specs.Laws.{HasPairsOf, FoundRenamingIsSound, RenamingIsFound}
 use Rattle.def_renaming.proofs.Lists.{nothing_in, first_in, one_in, in_flat_map, flat_map_has, head_in, some_head}
 use Rattle.def_renaming.proofs.Pairs.{has_itself, has_both}
@@ -30,8 +30,8 @@ from_one [] lists pss qs h = (qs, h, record { one = λ one. one; has = has_itsel
 from_one (group ∷ groups) lists pss qs h =
     let later = from_one groups lists (flat_map (renamings_of group lists) pss) qs h in
     let before = in_flat_map (renamings_of group lists) pss later.0 later.1 in
-    let by = in_flat_map (λ us. option_to_list (begun before.0 group us)) lists later.0 before.2 in
-    let given = begun_given before.0 later.0 group by.0 (in_option (begun before.0 group by.0) later.0 by.2) in (
+    let by = in_flat_map (λ us. option_to_list (with_beginning_pairs before.0 group us)) lists later.0 before.2 in
+    let given = begun_given before.0 later.0 group by.0 (in_option (with_beginning_pairs before.0 group by.0) later.0 by.2) in (
       before.0,
       before.1,
       record {
@@ -59,7 +59,7 @@ finds (group ∷ groups) lists pss ps rs h one has so =
     let first = All-head (λ g. Any (IsRenamedBeginning rs g) lists) group groups so in
     let least = begun_given_least ps rs group first.1 one has first.4 in
     let at : Contains lists first.1 = (first.0, first.2, first.3) in
-    let of_list = flat_map_has (λ us. option_to_list (begun ps group us)) lists first.1 least.pairs at (option_has (begun ps group first.1) least.pairs least.is) in
+    let of_list = flat_map_has (λ us. option_to_list (with_beginning_pairs ps group us)) lists first.1 least.pairs at (option_has (with_beginning_pairs ps group first.1) least.pairs least.is) in
     finds groups lists (flat_map (renamings_of group lists) pss) least.pairs rs (flat_map_has (renamings_of group lists) pss ps least.pairs h of_list) one least.has
     (All-tail (λ g. Any (IsRenamedBeginning rs g) lists) group groups so)
 

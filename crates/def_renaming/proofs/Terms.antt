@@ -6,7 +6,7 @@ use Rattle.std.proofs.lemmas.Bool.Decides.{Decides-int_eq}
 use Rattle.std.proofs.lemmas.Option.{cond_some}
 use Rattle.std.proofs.lemmas.Slice.Eq.{bytes_eq-Decides}
 use Rattle.def_term.specs.Tree.{Tree, int, atom, pid, tuple, list, Trees, none, more}
-use Rattle.def_renaming.specs.Renaming.{IsOneToOne, IsRenamed, AreRenamed, IsRenamedBeginning, matched, all_matched, begun}
+use Rattle.def_renaming.specs.Renaming.{IsOneToOne, IsRenamed, AreRenamed, IsRenamedBeginning, with_term_pairs, with_element_pairs, with_beginning_pairs}
 use Rattle.def_renaming.specs.Laws.{HasPairsOf, PairsOfABeginningAreSound, PairsOfABeginningAreLeast}
 use Rattle.def_renaming.proofs.Lists.{both_some}
 use Rattle.def_renaming.proofs.Pairs.{has_itself, has_both, joined_sound, joined_least}
@@ -53,7 +53,7 @@ then_given ps qs rs First Second First' along a b = record {
 }
 
 mutual
-  matched_sound : (ps qs : List (ℕ × ℕ)) (t u : Tree) → matched ps t u ≡ Some qs → IsGiven ps qs (IsRenamed qs t u)
+  matched_sound : (ps qs : List (ℕ × ℕ)) (t u : Tree) → with_term_pairs ps t u ≡ Some qs → IsGiven ps qs (IsRenamed qs t u)
   matched_sound ps qs (int y) (int z) e = unchanged (int_eq y z) ps qs (y ≡ z) (Decides-int_eq y z).0 e
   matched_sound ps qs (atom r) (atom s) e = unchanged (bytes_eq r s) ps qs (r ≡ s) (bytes_eq-Decides r s).0 e
   matched_sound ps qs (pid m) (pid n) e = let more = joined_sound ps qs m n e in record { one = more.one; has = more.has; so = more.new }
@@ -61,18 +61,18 @@ mutual
   matched_sound ps qs (list ts) (list us) e = all_matched_sound ps qs ts us e
   matched_sound ps qs t u e = cc
 
-  all_matched_sound : (ps qs : List (ℕ × ℕ)) (ts us : Trees) → all_matched ps ts us ≡ Some qs → IsGiven ps qs (AreRenamed qs ts us)
+  all_matched_sound : (ps qs : List (ℕ × ℕ)) (ts us : Trees) → with_element_pairs ps ts us ≡ Some qs → IsGiven ps qs (AreRenamed qs ts us)
   all_matched_sound ps qs none none e = let same : ps ≡ qs = cc in subst (λ xs. IsGiven ps xs (Unit {0})) same (record { one = λ one. one; has = has_itself ps; so = tt })
   all_matched_sound ps qs (more t ts) (more u us) e =
-      let two = both_some (λ xs. all_matched xs ts us) (matched ps t u) qs e in
+      let two = both_some (λ xs. with_element_pairs xs ts us) (with_term_pairs ps t u) qs e in
       then_given ps two.0 qs (IsRenamed two.0 t u) (AreRenamed qs ts us) (IsRenamed qs t u) (λ has h. renamed_more qs two.0 has t u h) (matched_sound ps two.0 t u two.1) (all_matched_sound two.0 qs ts us two.2)
   all_matched_sound ps qs ts us e = cc
 
-pub begun_given : (ps qs : List (ℕ × ℕ)) (ts us : List Tree) → begun ps ts us ≡ Some qs → IsGiven ps qs (IsRenamedBeginning qs ts us)
+pub begun_given : (ps qs : List (ℕ × ℕ)) (ts us : List Tree) → with_beginning_pairs ps ts us ≡ Some qs → IsGiven ps qs (IsRenamedBeginning qs ts us)
 begun_given ps qs [] us e = let same : ps ≡ qs = cc in subst (λ xs. IsGiven ps xs (Unit {0})) same (record { one = λ one. one; has = has_itself ps; so = tt })
 begun_given ps qs (t ∷ ts) [] e = cc
 begun_given ps qs (t ∷ ts) (u ∷ us) e =
-    let two = both_some (λ xs. begun xs ts us) (matched ps t u) qs e in
+    let two = both_some (λ xs. with_beginning_pairs xs ts us) (with_term_pairs ps t u) qs e in
     then_given ps two.0 qs (IsRenamed two.0 t u) (IsRenamedBeginning qs ts us) (IsRenamed qs t u) (λ has h. renamed_more qs two.0 has t u h) (matched_sound ps two.0 t u two.1) (begun_given two.0 qs ts us two.2)
 
 pub begun_sound : PairsOfABeginningAreSound
@@ -93,7 +93,7 @@ then_least : (rs : List (ℕ × ℕ)) (f : List (ℕ × ℕ) → Option (List (�
 then_least rs f o a b = record { pairs = b.pairs; is = ap (option_and_then f) a.is ∙ b.is; has = b.has }
 
 mutual
-  matched_least : (ps rs : List (ℕ × ℕ)) (t u : Tree) → IsOneToOne rs → HasPairsOf rs ps → IsRenamed rs t u → IsLeast rs (matched ps t u)
+  matched_least : (ps rs : List (ℕ × ℕ)) (t u : Tree) → IsOneToOne rs → HasPairsOf rs ps → IsRenamed rs t u → IsLeast rs (with_term_pairs ps t u)
   matched_least ps rs (int y) (int z) one has h = the_same (int_eq y z) ps rs ((Decides-int_eq y z).1 h) has
   matched_least ps rs (atom r) (atom s) one has h = the_same (bytes_eq r s) ps rs ((bytes_eq-Decides r s).1 h) has
   matched_least ps rs (pid m) (pid n) one has h = let least = joined_least ps rs m n one has h in record { pairs = least.0; is = least.1; has = least.2 }
@@ -101,19 +101,19 @@ mutual
   matched_least ps rs (list ts) (list us) one has h = all_matched_least ps rs ts us one has h
   matched_least ps rs t u one has h = absurd h
 
-  all_matched_least : (ps rs : List (ℕ × ℕ)) (ts us : Trees) → IsOneToOne rs → HasPairsOf rs ps → AreRenamed rs ts us → IsLeast rs (all_matched ps ts us)
+  all_matched_least : (ps rs : List (ℕ × ℕ)) (ts us : Trees) → IsOneToOne rs → HasPairsOf rs ps → AreRenamed rs ts us → IsLeast rs (with_element_pairs ps ts us)
   all_matched_least ps rs none none one has h = record { pairs = ps; is = refl; has = has }
   all_matched_least ps rs (more t ts) (more u us) one has h =
       let first = matched_least ps rs t u one has h.0 in
-      then_least rs (λ xs. all_matched xs ts us) (matched ps t u) first (all_matched_least first.pairs rs ts us one first.has h.1)
+      then_least rs (λ xs. with_element_pairs xs ts us) (with_term_pairs ps t u) first (all_matched_least first.pairs rs ts us one first.has h.1)
   all_matched_least ps rs ts us one has h = absurd h
 
-pub begun_given_least : (ps rs : List (ℕ × ℕ)) (ts us : List Tree) → IsOneToOne rs → HasPairsOf rs ps → IsRenamedBeginning rs ts us → IsLeast rs (begun ps ts us)
+pub begun_given_least : (ps rs : List (ℕ × ℕ)) (ts us : List Tree) → IsOneToOne rs → HasPairsOf rs ps → IsRenamedBeginning rs ts us → IsLeast rs (with_beginning_pairs ps ts us)
 begun_given_least ps rs [] us one has h = record { pairs = ps; is = refl; has = has }
 begun_given_least ps rs (t ∷ ts) [] one has h = absurd h
 begun_given_least ps rs (t ∷ ts) (u ∷ us) one has h =
     let first = matched_least ps rs t u one has h.0 in
-    then_least rs (λ xs. begun xs ts us) (matched ps t u) first (begun_given_least first.pairs rs ts us one first.has h.1)
+    then_least rs (λ xs. with_beginning_pairs xs ts us) (with_term_pairs ps t u) first (begun_given_least first.pairs rs ts us one first.has h.1)
 
 pub begun_least : PairsOfABeginningAreLeast
 begun_least ps rs there here one has h = let least = begun_given_least ps rs there here one has h in (least.pairs, least.is, least.has)

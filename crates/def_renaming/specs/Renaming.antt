@@ -50,39 +50,39 @@ abbrev pub has_either : ℕ → ℕ → ℕ × ℕ → Bool
 has_either m n p = (p.0 == m) || (p.1 == n)
 
 -- the pairs with this one, by the one that has either of its pids
-abbrev pub joined_by : List (ℕ × ℕ) → ℕ → ℕ → Option (ℕ × ℕ) → Option (List (ℕ × ℕ))
-joined_by ps m n None = Some (ps ++ (m, n) ∷ [])
-joined_by ps m n (Some p) = if is_pair m n p then Some ps else None
+abbrev pub with_pair_by : List (ℕ × ℕ) → ℕ → ℕ → Option (ℕ × ℕ) → Option (List (ℕ × ℕ))
+with_pair_by ps m n None = Some (ps ++ (m, n) ∷ [])
+with_pair_by ps m n (Some p) = if is_pair m n p then Some ps else None
 
 -- the pairs with this one, which comes at the end unless it is there; none where one of the two has another partner
-abbrev pub joined : List (ℕ × ℕ) → ℕ → ℕ → Option (List (ℕ × ℕ))
-joined ps m n = joined_by ps m n (find (has_either m n) ps)
+abbrev pub with_pair : List (ℕ × ℕ) → ℕ → ℕ → Option (List (ℕ × ℕ))
+with_pair ps m n = with_pair_by ps m n (find (has_either m n) ps)
 
 abbrev mutual
   -- the pairs with those that the two terms need; none where no pairs make the one of the other
-  pub matched : List (ℕ × ℕ) → Tree → Tree → Option (List (ℕ × ℕ))
-  matched ps (int y) (int z) = if int_eq y z then Some ps else None
-  matched ps (atom r) (atom s) = if bytes_eq r s then Some ps else None
-  matched ps (pid m) (pid n) = joined ps m n
-  matched ps (tuple ts) (tuple us) = all_matched ps ts us
-  matched ps (list ts) (list us) = all_matched ps ts us
-  matched ps _ _ = None
+  pub with_term_pairs : List (ℕ × ℕ) → Tree → Tree → Option (List (ℕ × ℕ))
+  with_term_pairs ps (int y) (int z) = if int_eq y z then Some ps else None
+  with_term_pairs ps (atom r) (atom s) = if bytes_eq r s then Some ps else None
+  with_term_pairs ps (pid m) (pid n) = with_pair ps m n
+  with_term_pairs ps (tuple ts) (tuple us) = with_element_pairs ps ts us
+  with_term_pairs ps (list ts) (list us) = with_element_pairs ps ts us
+  with_term_pairs ps _ _ = None
 
   -- element by element
-  pub all_matched : List (ℕ × ℕ) → Trees → Trees → Option (List (ℕ × ℕ))
-  all_matched ps none none = Some ps
-  all_matched ps (more t ts) (more u us) = option_and_then (λ qs. all_matched qs ts us) (matched ps t u)
-  all_matched ps _ _ = None
+  pub with_element_pairs : List (ℕ × ℕ) → Trees → Trees → Option (List (ℕ × ℕ))
+  with_element_pairs ps none none = Some ps
+  with_element_pairs ps (more t ts) (more u us) = option_and_then (λ qs. with_element_pairs qs ts us) (with_term_pairs ps t u)
+  with_element_pairs ps _ _ = None
 
 -- the pairs with those that the messages of a group need where they are the first ones of a list
-abbrev pub begun : List (ℕ × ℕ) → (there here : List Tree) → Option (List (ℕ × ℕ))
-begun ps [] us = Some ps
-begun ps (t ∷ ts) [] = None
-begun ps (t ∷ ts) (u ∷ us) = option_and_then (λ qs. begun qs ts us) (matched ps t u)
+abbrev pub with_beginning_pairs : List (ℕ × ℕ) → (there here : List Tree) → Option (List (ℕ × ℕ))
+with_beginning_pairs ps [] us = Some ps
+with_beginning_pairs ps (t ∷ ts) [] = None
+with_beginning_pairs ps (t ∷ ts) (u ∷ us) = option_and_then (λ qs. with_beginning_pairs qs ts us) (with_term_pairs ps t u)
 
 -- the pairs with those that a group needs, for each list whose first messages it can be
 abbrev pub renamings_of : List Tree → (lists : List (List Tree)) → List (ℕ × ℕ) → List (List (ℕ × ℕ))
-renamings_of group lists ps = flat_map (λ us. option_to_list (begun ps group us)) lists
+renamings_of group lists ps = flat_map (λ us. option_to_list (with_beginning_pairs ps group us)) lists
 
 -- the same for group after group
 abbrev pub renamings : (groups lists : List (List Tree)) → List (List (ℕ × ℕ)) → List (List (ℕ × ℕ))

@@ -1,3 +1,3 @@
-pub mod Matches
+mod Matches
 mod TermMatches
 mod Searches

@@ -15,11 +15,11 @@ pair_seen p = (p.there, p.here)
 abbrev pub pairs_seen : {A : Type 0} → Vec PidPair A → List (ℕ × ℕ)
 pairs_seen v = map pair_seen v.items
 
-abbrev pub term_seen : {A : Type 0} → Bor (Term A) → Tree
-term_seen t = tree_of t.now
+abbrev pub lent_term_seen : {A : Type 0} → Bor (Term A) → Tree
+lent_term_seen t = tree_of t.now
 
-abbrev pub terms_seen : {A B : Type 0} → Vec (Bor (Term A)) B → List Tree
-terms_seen v = map term_seen v.items
+abbrev pub lent_terms_seen : {A B : Type 0} → Vec (Bor (Term A)) B → List Tree
+lent_terms_seen v = map lent_term_seen v.items
 
 -- the first pairs that these give for groups of messages
 abbrev pub first_from : (groups lists : List (List Tree)) → List (List (ℕ × ℕ)) → Option (List (ℕ × ℕ))

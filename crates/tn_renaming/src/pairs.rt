@@ -1,6 +1,6 @@
 // Pairs of pids.
 ghost use Rattle.std.specs.Prelude.{◌≡◌, IfOk, find, map, option_map};
-ghost use Rattle.def_renaming.specs.Renaming.{has_either, is_pair, joined};
+ghost use Rattle.def_renaming.specs.Renaming.{has_either, is_pair, with_pair};
 ghost use Rattle.tn_renaming.specs.Pairs.{LeavesPairs, pair_seen, pairs_seen};
 
 use std::alloc::{AllocError, Allocator};
@@ -45,7 +45,7 @@ pub(crate) fn join<A: Allocator>(
     here: u32,
 ) -> Result<bool, AllocError>
     ensures { let old = pairs_seen pairs.old in
-        IfOk result (λ b. LeavesPairs old (joined old there here) b (pairs_seen pairs.new)) }
+        IfOk result (λ b. LeavesPairs old (with_pair old there here) b (pairs_seen pairs.new)) }
 {
     match pair_with(pairs.as_slice(), there, here) {
         Some(pair) => Ok(is_pair(pair, there, here)),

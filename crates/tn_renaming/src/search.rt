@@ -1,7 +1,7 @@
 // The search for pairs of pids.
 ghost use Rattle.std.specs.Prelude.{◌≡◌, IfOk, [], ◌∷◌, map, option_map, option_to_list};
-ghost use Rattle.def_renaming.specs.Renaming.{begun, first_renaming};
-ghost use Rattle.tn_renaming.specs.Pairs.{LeavesPairs, first_from, pairs_seen, term_seen, terms_seen};
+ghost use Rattle.def_renaming.specs.Renaming.{with_beginning_pairs, first_renaming};
+ghost use Rattle.tn_renaming.specs.Pairs.{LeavesPairs, first_from, pairs_seen, lent_term_seen, lent_terms_seen};
 
 use crate::pairs::PidPair;
 use crate::terms::match_beginning;
@@ -16,7 +16,7 @@ fn extend_pairs<A: Allocator, B: Allocator, C: Allocator>(
     lists: &[Vec<&Term<C>, A>],
 ) -> Result<bool, AllocError>
     ensures { let old = pairs_seen pairs.old in
-        let first = first_from (map terms_seen groups.now) (map terms_seen lists.now) (old ∷ []) in
+        let first = first_from (map lent_terms_seen groups.now) (map lent_terms_seen lists.now) (old ∷ []) in
         IfOk result (λ b. LeavesPairs old first b (pairs_seen pairs.new)) }
 {
     let Some((group, rest)) = groups.split_first() else {
@@ -43,8 +43,8 @@ fn extend_by_list<A: Allocator, B: Allocator, C: Allocator>(
     lists: &[Vec<&Term<C>, A>],
 ) -> Result<bool, AllocError>
     ensures { let old = pairs_seen pairs.old in
-        let made = option_to_list (begun old (map term_seen group.now) (map term_seen list.now)) in
-        let first = first_from (map terms_seen rest.now) (map terms_seen lists.now) made in
+        let given = with_beginning_pairs old (map lent_term_seen group.now) (map lent_term_seen list.now) in
+        let first = first_from (map lent_terms_seen rest.now) (map lent_terms_seen lists.now) (option_to_list given) in
         IfOk result (λ b. LeavesPairs old first b (pairs_seen pairs.new)) }
 {
     let found = match_beginning(pairs, group, list)?;
@@ -66,7 +66,7 @@ pub fn first_renaming<A: Allocator + Copy, B: Allocator, C: Allocator>(
     lists: &[Vec<&Term<C>, A>],
 ) -> Result<Option<Vec<PidPair, A>>, AllocError>
     ensures { IfOk result (λ o. option_map pairs_seen o ≡
-        first_renaming (map terms_seen groups.now) (map terms_seen lists.now)) }
+        first_renaming (map lent_terms_seen groups.now) (map lent_terms_seen lists.now)) }
 {
     let mut pairs = Vec::new(alloc);
     let found = extend_pairs(&mut pairs, groups, lists)?;

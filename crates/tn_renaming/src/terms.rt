@@ -1,7 +1,7 @@
 // Terms that are the same but for pids.
 ghost use Rattle.std.specs.Prelude.{IfOk, map};
-ghost use Rattle.def_renaming.specs.Renaming.{matched, all_matched, begun};
-ghost use Rattle.tn_renaming.specs.Pairs.{LeavesPairs, pairs_seen, term_seen};
+ghost use Rattle.def_renaming.specs.Renaming.{with_term_pairs, with_element_pairs, with_beginning_pairs};
+ghost use Rattle.tn_renaming.specs.Pairs.{LeavesPairs, pairs_seen, lent_term_seen};
 ghost use Rattle.tn_term.specs.Views.{tree_of, trees_of};
 
 use crate::pairs::{PidPair, join};
@@ -16,8 +16,8 @@ fn match_term<A: Allocator, B: Allocator, C: Allocator>(
     here: &Term<C>,
 ) -> Result<bool, AllocError>
     ensures { let old = pairs_seen pairs.old in
-        IfOk result (λ b. LeavesPairs old (matched old (tree_of there.now) (tree_of here.now)) b
-        (pairs_seen pairs.new)) }
+        let given = with_term_pairs old (tree_of there.now) (tree_of here.now) in
+        IfOk result (λ b. LeavesPairs old given b (pairs_seen pairs.new)) }
 {
     match (there, here) {
         (Term::Int(m), Term::Int(n)) => Ok(*m == *n),
@@ -37,8 +37,8 @@ fn match_terms<A: Allocator, B: Allocator, C: Allocator>(
     here: &[Term<C>],
 ) -> Result<bool, AllocError>
     ensures { let old = pairs_seen pairs.old in
-        IfOk result (λ b. LeavesPairs old (all_matched old (trees_of there.now) (trees_of here.now)) b
-        (pairs_seen pairs.new)) }
+        let given = with_element_pairs old (trees_of there.now) (trees_of here.now) in
+        IfOk result (λ b. LeavesPairs old given b (pairs_seen pairs.new)) }
 {
     if there.len() != here.len() {
         return Ok(false);
@@ -59,8 +59,8 @@ pub(crate) fn match_beginning<A: Allocator, B: Allocator, C: Allocator>(
     here: &[&Term<C>],
 ) -> Result<bool, AllocError>
     ensures { let old = pairs_seen pairs.old in
-        IfOk result (λ b. LeavesPairs old (begun old (map term_seen there.now) (map term_seen here.now)) b
-        (pairs_seen pairs.new)) }
+        let given = with_beginning_pairs old (map lent_term_seen there.now) (map lent_term_seen here.now) in
+        IfOk result (λ b. LeavesPairs old given b (pairs_seen pairs.new)) }
 {
     if here.len() < there.len() {
         return Ok(false);

@@ -1,5 +1,5 @@
 use Rattle.std.proofs.Common.{◌≡◌, ◌+◌, false, drop, length, arith, rules}
-use Rattle.def_renaming.specs.Renaming.{matched, all_matched}
+use Rattle.def_renaming.specs.Renaming.{with_term_pairs, with_element_pairs}
 use Rattle.tn_term.specs.Views.{tree_of, trees_of}
 use Rattle.tn_renaming.specs.Pairs.{pairs_seen}
 use Rattle.tn_renaming.proofs.Matches.{leaf, goes_on, stops, all_here, lengths_differ}
@@ -27,7 +27,7 @@ match_terms-returns-then-there-here g t c =
     let old = pairs_seen c.args.pairs.now in
     let xs = c.args.there.now in
     let ys = c.args.here.now in
-    leaf old (all_matched old (trees_of xs) (trees_of ys)) false
+    leaf old (with_element_pairs old (trees_of xs) (trees_of ys)) false
     (lengths_differ tree_of tree_of xs ys old (λ e. let same : length c.args.there.now ≡ length c.args.here.now = e in search (rules, same)))
 
 pub match_terms-returns-then-not-found : goal.match_terms-returns-then-not-found
@@ -39,8 +39,8 @@ match_terms-returns-then-not-found g t c =
     let y = c.index-here-i.result in
     let old = pairs_seen c.args.pairs.now in
     let now = pairs_seen l.pairs in
-    stops old (all_matched old (trees_of xs) (trees_of ys)) now (pairs_seen c.match_term.new.pairs) (all_matched now (trees_of (drop l.i xs)) (trees_of (drop l.i ys)))
-    (λ qs. all_matched qs (trees_of (drop (l.i + 1) xs)) (trees_of (drop (l.i + 1) ys))) (matched now (tree_of x) (tree_of y)) c.in_ok-found.found
+    stops old (with_element_pairs old (trees_of xs) (trees_of ys)) now (pairs_seen c.match_term.new.pairs) (with_element_pairs now (trees_of (drop l.i xs)) (trees_of (drop l.i ys)))
+    (λ qs. with_element_pairs qs (trees_of (drop (l.i + 1) xs)) (trees_of (drop (l.i + 1) ys))) (with_term_pairs now (tree_of x) (tree_of y)) c.in_ok-found.found
     c.if-not-found.true (all_here tree_of tree_of xs ys l.i x y now (omega arith) (omega arith) c.index-there-i.is c.index-here-i.is) c.in_ok-found.ensures l.invariant.on
 
 pub match_terms-loop-i-preserved : goal.match_terms-loop-i-preserved
@@ -54,7 +54,7 @@ match_terms-loop-i-preserved g t c =
     let now = pairs_seen l.pairs in
     record {
       lengths = l.invariant.lengths;
-      on = goes_on old (all_matched old (trees_of xs) (trees_of ys)) now (pairs_seen c.match_term.new.pairs) (all_matched now (trees_of (drop l.i xs)) (trees_of (drop l.i ys)))
-          (λ qs. all_matched qs (trees_of (drop (l.i + 1) xs)) (trees_of (drop (l.i + 1) ys))) (matched now (tree_of x) (tree_of y)) c.in_ok-found.found
+      on = goes_on old (with_element_pairs old (trees_of xs) (trees_of ys)) now (pairs_seen c.match_term.new.pairs) (with_element_pairs now (trees_of (drop l.i xs)) (trees_of (drop l.i ys)))
+          (λ qs. with_element_pairs qs (trees_of (drop (l.i + 1) xs)) (trees_of (drop (l.i + 1) ys))) (with_term_pairs now (tree_of x) (tree_of y)) c.in_ok-found.found
           c.if-not-found.false (all_here tree_of tree_of xs ys l.i x y now (omega arith) (omega arith) c.index-there-i.is c.index-here-i.is) c.in_ok-found.ensures l.invariant.on;
     }

@@ -1,5 +1,5 @@
 use Rattle.std.proofs.Common.{◌≡◌, drop, length}
-use Rattle.def_renaming.specs.Renaming.{all_matched}
+use Rattle.def_renaming.specs.Renaming.{with_element_pairs}
 use Rattle.tn_term.specs.Views.{trees_of}
 use Rattle.tn_renaming.specs.Pairs.{pairs_seen}
 use Rattle.tn_renaming.proofs.Matches.{IsOn}
@@ -10,5 +10,5 @@ invariant-match_terms-loop-i g l =
     let old = pairs_seen l.fn.pairs in
     let now = pairs_seen l.pairs in record {
       lengths : length l.there ≡ length l.here;
-      on : IsOn old (all_matched old (trees_of l.there) (trees_of l.here)) now (all_matched now (trees_of (drop l.i l.there)) (trees_of (drop l.i l.here)));
+      on : IsOn old (with_element_pairs old (trees_of l.there) (trees_of l.here)) now (with_element_pairs now (trees_of (drop l.i l.there)) (trees_of (drop l.i l.here)));
     }
