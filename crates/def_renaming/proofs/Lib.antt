@@ -1,0 +1,5 @@
+mod Lists
+mod Pairs
+mod Terms
+pub mod Search
+mod Rows
