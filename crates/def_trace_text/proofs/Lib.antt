@@ -1,0 +1,5 @@
+pub mod TextLines
+pub mod TermTexts
+pub mod MessageLines
+pub mod Refusals
+pub mod TraceRows
