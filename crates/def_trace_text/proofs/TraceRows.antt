@@ -3,6 +3,7 @@ use Rattle.std.proofs.Common.{◌≡◌, ℕ, pos, List, [], ◌∷◌, ◌++◌
 use Rattle.std.proofs.Math.Dec.{lit≤}
 use Rattle.def_term.specs.Tree.{Tree, int, atom, pid, tuple, list, Trees, none, more, of_elements}
 use Rattle.def_term.specs.Names.{word, mfa_term, mfa_from}
+use Rattle.std.specs.Fmt.{digits}
 use Rattle.def_term.specs.Text.{w, is_written_bare}
 use Rattle.def_text.proofs.Whole.{spells}
 use Rattle.def_trace_text.specs.Lines.{text_lines, is_passed_over, term_text}
@@ -90,11 +91,11 @@ no_tuple = refl
 -- ---- texts
 
 exit_line : IsTraceLine (codes "{trace,<0.100.0>,exit,normal}.") exit_message
-unfolding is_written_bare
+unfolding is_written_bare digits
 exit_line = (spells exit_message refl (record { nests = lit≤ tt; sizes = refl }) (lit≤ tt), refl)
 
 call_line : IsTraceLine (codes "{trace,<0.100.0>,call,{m,f,[1]}}") call_message
-unfolding is_written_bare
+unfolding is_written_bare digits
 call_line = (spells call_message refl (record { nests = lit≤ tt; sizes = refl }) (lit≤ tt), refl)
 
 pub empty_text : SpellsTrace [] []
@@ -105,7 +106,7 @@ two_messages = (call_line, (exit_line, tt))
 
 -- the third line has a term that is no trace message
 pub third_line : IsTraceRefusal (codes "\n{trace,<0.100.0>,exit,normal}.\n{trace,<0.100.0>}\n{") (record { line = 3; fault = no_message })
-unfolding is_written_bare
+unfolding is_written_bare digits
 third_line = record {
   before = [] ∷ codes "{trace,<0.100.0>,exit,normal}." ∷ [];
   line = codes "{trace,<0.100.0>}";
