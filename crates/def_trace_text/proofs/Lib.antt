@@ -2,4 +2,5 @@ pub mod TextLines
 pub mod TermTexts
 pub mod MessageLines
 pub mod Refusals
+pub mod TraceMessages
 pub mod TraceRows

@@ -1,6 +1,6 @@
 -- What lines spell, line by line.
-use Rattle.std.proofs.Common.{◌≡◌, ◌∙◌, ℕ, Bool, true, false, not, cond, List, [], ◌∷◌, ◌++◌, refl, ap, sym, subst}
-use Rattle.std.specs.List.{AllZip, filter}
+use Rattle.std.proofs.Common.{◌≡◌, ◌∙◌, ℕ, Bool, true, false, not, cond, List, [], ◌∷◌, refl, ap, sym, subst}
+use Rattle.std.specs.List.{AllZip}
 use Rattle.def_term.specs.Tree.{Tree}
 use Rattle.def_text.proofs.One.{one}
 use Rattle.def_trace_text.specs.Lines.{is_passed_over, term_text}

@@ -1,9 +1,9 @@
 -- The text of the term of a line.
-use Rattle.std.proofs.Common.{◌≡◌, ◌≢◌, ◌∙◌, ◌⊎◌, inl, inr, ℕ, ◌+◌, ◌-◌, ◌<◌, ◌==◌, Bool, true, false, ◌&&◌, cond, List, [], ◌∷◌, ◌++◌, length, take, get_or, refl, ap, sym, subst, rules, arith, append_assoc, length-append}
+use Rattle.std.proofs.Common.{◌≡◌, ◌≢◌, ◌∙◌, ◌⊎◌, inl, inr, ℕ, ◌-◌, ◌==◌, Bool, true, false, ◌&&◌, List, [], ◌∷◌, ◌++◌, length, take, refl, ap, sym, subst, arith, append_assoc, length-append}
 use Rattle.std.specs.Prelude.{slice_index, if◌then◌else◌}
 use Rattle.std.proofs.lemmas.List.{get_or_push}
 use Rattle.def_text.specs.Tokens.{is_blank, all_are}
-use Rattle.def_trace_text.specs.Lines.{EndsTerm, IsTermText, without_blanks, without_end, term_text}
+use Rattle.def_trace_text.specs.Lines.{EndsTerm, IsTermText, without_blanks, term_text}
 use Rattle.def_trace_text.proofs.TextLines.{last_byte}
 
 -- the last byte is no blank, or there is none

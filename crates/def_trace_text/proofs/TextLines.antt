@@ -1,8 +1,8 @@
 -- The lines of a text.
-use Rattle.std.proofs.Common.{◌≡◌, ◌∙◌, ◌⊎◌, inl, inr, ℕ, ◌+◌, ◌-◌, ◌<◌, ◌==◌, Bool, true, false, not, ◌&&◌, cond, List, [], ◌∷◌, ◌++◌, length, take, drop, get_or, refl, ap, sym, subst, rules, arith, append_assoc}
+use Rattle.std.proofs.Common.{◌≡◌, ◌∙◌, inl, inr, ℕ, ◌+◌, ◌-◌, ◌<◌, ◌==◌, Bool, true, false, not, ◌&&◌, cond, List, [], ◌∷◌, ◌++◌, length, take, get_or, refl, ap, sym, subst, rules, arith, append_assoc}
 use Rattle.std.specs.Prelude.{slice_index, if◌then◌else◌}
 use Rattle.std.specs.List.{list_all, slice_split, onto_first, join_with_byte}
-use Rattle.std.specs.Str.Lines.{lines_of_parts, strip_carriage_return}
+use Rattle.std.specs.Str.Lines.{lines_of_parts}
 use Rattle.std.proofs.lemmas.List.Splits.{join_with_byte-slice_split}
 use Rattle.std.proofs.lemmas.List.{take_more}
 use Rattle.std.proofs.Math.Seq.{take-length}
@@ -71,7 +71,7 @@ line_with_end true x rest e h lines r =
     (none_before front (13 ∷ []) (subst (λ y. has_no_feed y ≡ true) is h), inr (13 ∷ 10 ∷ [], rest, inr refl, ap (λ y. y ++ 10 ∷ rest) is ∙ append_assoc front (13 ∷ []) (10 ∷ rest), r))
 line_with_end false x rest e h lines r = (h, inr (10 ∷ [], rest, inl refl, refl, r))
 
-no_bytes : (x : List ℕ) → (length x == 0) ≡ true → x ≡ []
+pub no_bytes : (x : List ℕ) → (length x == 0) ≡ true → x ≡ []
 no_bytes [] e = refl
 no_bytes (b ∷ bs) e = let none : length (b ∷ bs) ≡ 0 = same_byte (length (b ∷ bs)) 0 e in absurd (omega (arith, none))
 

@@ -1,10 +1,10 @@
 -- Rows: small texts of trace messages, the lines of a text, which lines are passed over, the text of a line's term, and which terms are trace messages.
-use Rattle.std.proofs.Common.{◌≡◌, ℕ, pos, List, [], ◌∷◌, ◌++◌, true, false, codes, refl}
+use Rattle.std.proofs.Common.{◌≡◌, pos, [], ◌∷◌, true, false, codes, refl}
 use Rattle.std.proofs.Math.Dec.{lit≤}
-use Rattle.def_term.specs.Tree.{Tree, int, atom, pid, tuple, list, Trees, none, more, of_elements}
-use Rattle.def_term.specs.Names.{word, mfa_term, mfa_from}
+use Rattle.def_term.specs.Tree.{Tree, int, pid, tuple, list, of_elements}
+use Rattle.def_term.specs.Names.{word}
 use Rattle.std.specs.Fmt.{digits}
-use Rattle.def_term.specs.Text.{w, is_written_bare}
+use Rattle.def_term.specs.Text.{is_written_bare}
 use Rattle.def_text.proofs.Whole.{spells}
 use Rattle.def_trace_text.specs.Lines.{text_lines, is_passed_over, term_text}
 use Rattle.def_trace_text.specs.Messages.{is_trace_message}

@@ -1,6 +1,6 @@
 -- Which trace messages a text spells, one on a line, and how a text that spells none is refused (own).
 -- Depends on the lines of such a text, on trace messages and on the terms that texts spell.
-use Rattle.std.specs.Prelude.{◌≡◌, ℕ, ◌+◌, ◌<◌, Bool, true, false, not, List, [], ◌∷◌, ◌++◌, length}
+use Rattle.std.specs.Prelude.{◌≡◌, ℕ, ◌+◌, ◌<◌, true, false, not, List, ◌∷◌, ◌++◌, length}
 use Rattle.std.specs.List.{AllZip, filter}
 use Rattle.def_term.specs.Tree.{Tree}
 use Rattle.def_text.specs.Faults.{FaultKind}

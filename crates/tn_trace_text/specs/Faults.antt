@@ -16,6 +16,14 @@ term_fault_seen (faults.TooDeep at) = Some (no_term too_deep at)
 term_fault_seen (faults.TooLarge at) = Some (no_term too_large at)
 term_fault_seen faults.OutOfMemory = None
 
+-- the fault of the line of this number, whose term's text is refused
+abbrev pub term_fault_at : ℕ → TextFault → TraceFault
+term_fault_at n faults.TooLong = NoTerm n faults.TooLong
+term_fault_at n (faults.Token at) = NoTerm n (faults.Token at)
+term_fault_at n (faults.TooDeep at) = NoTerm n (faults.TooDeep at)
+term_fault_at n (faults.TooLarge at) = NoTerm n (faults.TooLarge at)
+term_fault_at n faults.OutOfMemory = OutOfMemory
+
 -- ---- words
 
 -- why a line spells no term

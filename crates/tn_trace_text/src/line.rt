@@ -1,5 +1,6 @@
 // One line of a text of trace messages.
-ghost use Rattle.std.specs.Prelude.{◌≡◌, ◌∷◌, ◌<◌, length};
+ghost use Rattle.std.specs.Prelude.{◌≡◌, ◌==◌, ◌∷◌, ◌<◌, length};
+ghost use Rattle.std.specs.List.{position};
 ghost use Rattle.def_trace_text.specs.Lines.{text_lines, is_passed_over, without_blanks, without_end, term_text};
 
 use tn_text::{gap_len, is_blank};
@@ -15,13 +16,20 @@ fn without_end(last: u8, text: &[u8]) -> &[u8]
     }
 }
 
+/// Where the first line feed is.
+fn line_feed_at(text: &[u8]) -> Option<usize>
+    ensures { result ≡ position (λ b. b == 10) text.now }
+{
+    text.iter().position(|b| *b == b'\n')
+}
+
 /// The first line of a text that isn't empty, and what is after the line's end.
 pub(crate) fn first_line(text: &[u8]) -> (&[u8], &[u8])
     requires { 0 < length text.now }
     ensures cut { text_lines text.now ≡ result.0.now ∷ text_lines result.1.now }
     ensures shorter { length result.1.now < length text.now }
 {
-    match text.iter().position(|b| *b == b'\n') {
+    match line_feed_at(text) {
         None => (text, b""),
         Some(end) => (without_end(b'\r', &text[..end]), &text[end + 1..]),
     }

@@ -1,5 +1,6 @@
 // A text of trace messages, read line by line.
-ghost use Rattle.std.specs.Prelude.{IfOk, IfErr};
+ghost use Rattle.std.specs.Prelude.{◌≡◌, IfOk, IfErr};
+ghost use Rattle.tn_trace_text.specs.Faults.{term_fault_at};
 ghost use Rattle.tn_trace_text.specs.Readings.{IsLineRead, AddsLine, IsContentFault, IsTraceRead};
 
 use crate::fault::TraceFault;
@@ -8,6 +9,19 @@ use crate::message::is_trace_message;
 use std::alloc::Allocator;
 use tn_term::Term;
 use tn_text::{TextFault, read_term};
+
+/// The fault of a line whose term's text is refused.
+fn fault_at(line: usize, fault: TextFault) -> TraceFault
+    ensures { result ≡ term_fault_at line fault }
+{
+    match fault {
+        TextFault::OutOfMemory => TraceFault::OutOfMemory,
+        TextFault::TooLong
+        | TextFault::Token { .. }
+        | TextFault::TooDeep { .. }
+        | TextFault::TooLarge { .. } => TraceFault::NoTerm { line, fault },
+    }
+}
 
 /// The trace message that a line spells, which has this number.
 fn read_line<A: Allocator + Copy>(
@@ -18,6 +32,7 @@ fn read_line<A: Allocator + Copy>(
     ensures { IsLineRead line.now number result }
 {
     match read_term(alloc, term_text(line)) {
+        Err(fault) => Err(fault_at(number, fault)),
         Ok(term) => {
             if is_trace_message(&term) {
                 Ok(term)
@@ -25,11 +40,6 @@ fn read_line<A: Allocator + Copy>(
                 Err(TraceFault::NoMessage { line: number })
             }
         }
-        Err(TextFault::OutOfMemory) => Err(TraceFault::OutOfMemory),
-        Err(fault) => Err(TraceFault::NoTerm {
-            line: number,
-            fault,
-        }),
     }
 }
 
@@ -47,10 +57,10 @@ fn add_line<A: Allocator + Copy>(
         return Ok(());
     }
     let message = read_line(alloc, line, number)?;
-    match messages.push(message) {
-        Ok(()) => Ok(()),
-        Err(_) => Err(TraceFault::OutOfMemory),
+    if messages.push(message).is_err() {
+        return Err(TraceFault::OutOfMemory);
     }
+    Ok(())
 }
 
 /// The trace messages that a text spells, one on a line, in their order. A line of blanks and of a comment alone is
