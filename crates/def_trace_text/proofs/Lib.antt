@@ -1,0 +1,6 @@
+pub mod TextLines
+pub mod TermTexts
+pub mod MessageLines
+pub mod Refusals
+pub mod TraceMessages
+pub mod TraceRows

@@ -1,0 +1,4 @@
+pub mod Lines
+pub mod Messages
+pub mod TraceTexts
+pub mod TraceLaws

@@ -1,0 +1,39 @@
+-- What is promised of texts of trace messages (own).
+-- Depends on their lines, and on what they spell and how they are refused.
+use Rattle.std.specs.Prelude.{◌≡◌, ◌↔◌, ◌⊎◌, ℕ, true, List}
+use Rattle.def_term.specs.Tree.{Tree}
+use Rattle.def_trace_text.specs.Lines.{AreTextLines, text_lines, IsTermText, term_text}
+use Rattle.def_trace_text.specs.Messages.{IsTraceMessage, is_trace_message}
+use Rattle.def_trace_text.specs.TraceTexts.{SpellsTrace, TraceRefusal, IsTraceRefusal}
+
+-- ---- lines
+
+-- each text has its lines
+abbrev pub LinesAreThere : Type 0
+LinesAreThere = (text : List ℕ) → AreTextLines text (text_lines text)
+
+-- each line has a text of a term
+abbrev pub TermTextIsThere : Type 0
+TermTextIsThere = (line : List ℕ) → IsTermText line (term_text line)
+
+-- the messages are those tuples
+abbrev pub MessagesAreTuples : Type 0
+MessagesAreTuples = (t : Tree) → IsTraceMessage t ↔ (is_trace_message t ≡ true)
+
+-- ---- texts
+
+-- a text spells at most one list of messages
+abbrev pub SpelledTraceIsOne : Type 0
+SpelledTraceIsOne = (text : List ℕ) (ts us : List Tree) → SpellsTrace text ts → SpellsTrace text us → ts ≡ us
+
+-- a text that spells messages is not refused
+abbrev pub SpelledTraceIsNotRefused : Type 0
+SpelledTraceIsNotRefused = (text : List ℕ) (ts : List Tree) (r : TraceRefusal) → SpellsTrace text ts → IsTraceRefusal text r → ⊥
+
+-- a text is refused in one way at most
+abbrev pub TraceRefusalIsOne : Type 0
+TraceRefusalIsOne = (text : List ℕ) (r s : TraceRefusal) → IsTraceRefusal text r → IsTraceRefusal text s → r ≡ s
+
+-- each text spells messages or is refused
+abbrev pub TraceOrRefusal : Type 0
+TraceOrRefusal = (text : List ℕ) → ((ts : List Tree) × SpellsTrace text ts) ⊎ ((r : TraceRefusal) × IsTraceRefusal text r)

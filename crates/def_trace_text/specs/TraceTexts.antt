@@ -1,0 +1,62 @@
+-- Which trace messages a text spells, one on a line, and how a text that spells none is refused (own).
+-- Depends on the lines of such a text, on trace messages and on the terms that texts spell.
+use Rattle.std.specs.Prelude.{◌≡◌, ℕ, ◌+◌, ◌<◌, true, false, not, List, ◌∷◌, ◌++◌, length}
+use Rattle.std.specs.List.{AllZip, filter}
+use Rattle.def_term.specs.Tree.{Tree}
+use Rattle.def_text.specs.Faults.{FaultKind}
+use Rattle.def_text.specs.Spelling.{LENGTH, Spells, IsRefusedAt}
+use Rattle.def_trace_text.specs.Lines.{text_lines, is_passed_over, term_text}
+use Rattle.def_trace_text.specs.Messages.{is_trace_message}
+
+-- ---- messages
+
+-- the line spells this trace message, with a full stop or without
+abbrev pub IsTraceLine : List ℕ → Tree → Type 0
+IsTraceLine line t = Spells (term_text line) t × (is_trace_message t ≡ true)
+
+-- the lines that aren't passed over
+abbrev pub message_lines : List (List ℕ) → List (List ℕ)
+message_lines lines = filter (λ line. not (is_passed_over line)) lines
+
+-- each of them spells one message, and these are the messages in their order
+abbrev pub LinesSpell : List (List ℕ) → List Tree → Type 0
+LinesSpell lines ts = AllZip IsTraceLine (message_lines lines) ts
+
+-- the text spells these trace messages
+abbrev pub SpellsTrace : List ℕ → List Tree → Type 0
+SpellsTrace text ts = LinesSpell (text_lines text) ts
+
+-- ---- refusals
+
+-- why a line spells no trace message: its term's text is too long for a text, or spells no term, with the kind of its refusal and the offset in the line; or the term is no trace message
+pub data LineFault : Type 0 where
+  too_long : LineFault
+  no_term : FaultKind → ℕ → LineFault
+  no_message : LineFault
+
+-- the line has this fault
+abbrev pub HasFault : List ℕ → LineFault → Type 0
+HasFault line too_long = LENGTH < length (term_text line)
+HasFault line (no_term kind at) = IsRefusedAt (term_text line) kind at
+HasFault line no_message = (t : Tree) × Spells (term_text line) t × (is_trace_message t ≡ false)
+
+-- a line by its number from 1, and its fault
+pub record TraceRefusal : Type 0 where
+  pub line : ℕ
+  pub fault : LineFault
+
+-- the first line that is neither passed over nor a trace message's, and its fault
+pub record LinesHaveFault (lines : List (List ℕ)) (r : TraceRefusal) : Type 0 where
+  pub before : List (List ℕ)
+  pub line : List ℕ
+  pub after : List (List ℕ)
+  pub split : lines ≡ before ++ line ∷ after
+  pub messages : List Tree
+  pub spelled : LinesSpell before messages
+  pub number : r.line ≡ length before + 1
+  pub content : is_passed_over line ≡ false
+  pub fault : HasFault line r.fault
+
+-- the text has this refusal
+abbrev pub IsTraceRefusal : List ℕ → TraceRefusal → Type 0
+IsTraceRefusal text r = LinesHaveFault (text_lines text) r

@@ -1,0 +1,23 @@
+// The laws of texts of trace messages.
+ghost use Rattle.def_trace_text.specs.TraceLaws.{LinesAreThere, TermTextIsThere, MessagesAreTuples};
+ghost use Rattle.def_trace_text.specs.TraceLaws.{SpelledTraceIsOne, SpelledTraceIsNotRefused, TraceRefusalIsOne};
+ghost use Rattle.def_trace_text.specs.TraceLaws.{TraceOrRefusal};
+
+/// A text is its lines with their ends, and a line is the text of a term, a full stop or none, and blanks.
+pub fn a_line_has_one_term()
+    ensures lines { LinesAreThere }
+    ensures term { TermTextIsThere }
+{}
+
+/// The trace messages are the tuples of three elements or more with the atom `trace` and a pid first.
+pub fn the_messages_are_tuples()
+    ensures { MessagesAreTuples }
+{}
+
+/// A text spells one list of trace messages, or is refused in one way, and never both.
+pub fn a_text_spells_one_trace()
+    ensures one { SpelledTraceIsOne }
+    ensures refused { SpelledTraceIsNotRefused }
+    ensures once { TraceRefusalIsOne }
+    ensures either { TraceOrRefusal }
+{}

@@ -1,0 +1,4 @@
+pub mod FirstLines
+pub mod Contents
+pub mod MessageFields
+pub mod LinesRead
