@@ -12,7 +12,9 @@ ghost use Rattle.tn_renaming.specs.Pairs.{pair_seen, lent_term_seen};
 use crate::entry::put_picks;
 use crate::last_line::put_counted;
 use std::alloc::{AllocError, Allocator};
-use tn_comparison::{TraceMatch, TracePrefix, TraceQuestion, count_in, longest_prefix, message_there, possible_by};
+use tn_comparison::{
+    TraceMatch, TracePrefix, TraceQuestion, count_in, longest_prefix, message_there, possible_by,
+};
 use tn_explore::Exploration;
 use tn_messages::KeptListings;
 use tn_renaming::PidPair;

@@ -193,7 +193,12 @@ pub fn search_answer<A: Allocator + Copy, P: Allocator>(
     ensures { IfOk result (IsSearchAnswer sessions.now (search_question_seen question.now) exploration.now) }
 {
     match question {
-        SearchQuestion::Patterns(questions) => patterns_answer(alloc, sessions, questions, exploration),
+        SearchQuestion::Patterns(questions) => patterns_answer(
+            alloc,
+            sessions,
+            questions,
+            exploration,
+        ),
         SearchQuestion::Trace(question) => trace_answer(alloc, sessions, question, exploration),
     }
 }

@@ -35,6 +35,6 @@ returns g c =
     let read = slice_get_read ts (length ts) n c.in-Some.message.now refl c.in-Some.ensures.lookup.3.0 c.in-Some.ensures.lookup.1 in
     let got = slice_get-map tree_of items n ∙ ap (λ xs. option_map tree_of (slice_get xs n)) (sym is) ∙ ap (option_map tree_of) read in
     before_rest o0 (codes "not there: ") o1 (w t ++ 10 ∷ line) o4 c.in_ok-extend_from_slice.ensures.items
-        (before_rest o1 (w t) o2 (10 ∷ line) o4 c.in_ok-write_term.ensures.ok (before_rest o2 (10 ∷ []) o3 line o4 c.in_ok-push.ensures.items c.in_ok-put_there.ensures))
+    (before_rest o1 (w t) o2 (10 ∷ line) o4 c.in_ok-write_term.ensures.ok (before_rest o2 (10 ∷ []) o3 line o4 c.in_ok-push.ensures.items c.in_ok-put_there.ensures))
     ∙ ap (λ o. o0 ++ (codes "not there: " ++ (w t ++ 10 ∷ there_line o))) there
     ∙ ap (λ o. o0 ++ difference_text a f o) (sym got)

@@ -17,4 +17,4 @@ returns g c =
     let pairs = flat_map pair_line (map pair_seen c.args.found.now.pairs.items) in
     let last = c.in_ok-put_pairs.ensures ∙ ap (λ x. o3 ++ x) (seen_parts pair_line pair_seen c.deref.result.now ∙ ap (λ ps. flat_map pair_line (map pair_seen ps)) c.deref.ensures.value) in
     before_rest o0 (codes "possible: journal") o1 (picks ++ 10 ∷ pairs) o4 c.in_ok-extend_from_slice.ensures.items
-        (before_rest o1 picks o2 (10 ∷ pairs) o4 c.in_ok-put_picks.ensures (before_rest o2 (10 ∷ []) o3 pairs o4 c.in_ok-push.ensures.items last))
+    (before_rest o1 picks o2 (10 ∷ pairs) o4 c.in_ok-put_picks.ensures (before_rest o2 (10 ∷ []) o3 pairs o4 c.in_ok-push.ensures.items last))
