@@ -8,7 +8,7 @@ use Rattle.def_term.specs.Names.{Name, word}
 use Rattle.def_run.proofs.Samples.{number, braces}
 use Rattle.def_explore.specs.Rests.{KeptMessages, kept_messages, kept_by_process}
 use Rattle.def_explore.specs.Answers.{RestEntry}
-use Rattle.def_compare.specs.Traces.{TraceQuestion, processes_in, orders_in, prefix_pairs, shown_pairs}
+use Rattle.def_compare.specs.Traces.{TraceQuestion, trace_processes, orders_in, prefix_pairs, shown_pairs}
 use Rattle.def_compare.specs.Entries.{possible_by}
 use Rattle.def_compare.specs.Output.{comparison_text, message_there}
 
@@ -20,7 +20,7 @@ message p n = braces (word "trace" ∷ pid p ∷ word "receive" ∷ number n ∷
 abbrev printed : List Tree
 printed = message 85 2 ∷ message 84 1 ∷ message 85 3 ∷ []
 
-two_processes : processes_in printed ≡ 85 ∷ 84 ∷ []
+two_processes : trace_processes printed ≡ 85 ∷ 84 ∷ []
 two_processes = refl
 
 -- 100 receives 1, and 101 receives 2 and 3

@@ -44,8 +44,8 @@ abbrev pub possible_by : TraceQuestion → List RestEntry → Option Match
 possible_by a es = first_match (shown_pairs a) es
 
 -- the first that begins with so many of the messages
-abbrev pub begins_with : List Tree → List RestEntry → ℕ → Option Match
-begins_with ms es n = first_match (prefix_pairs (take n ms)) es
+abbrev pub prefix_match : List Tree → List RestEntry → ℕ → Option Match
+prefix_match ms es n = first_match (prefix_pairs (take n ms)) es
 
 -- a number of messages, with an entry that begins with them
 pub record Prefix : Type 0 where
@@ -59,5 +59,5 @@ prefix_or n None other = other
 
 -- of so many messages and fewer the greatest number with which an entry begins
 abbrev pub longest_prefix : List Tree → List RestEntry → ℕ → Option Prefix
-longest_prefix ms es zero = prefix_or 0 (begins_with ms es 0) None
-longest_prefix ms es (suc n) = prefix_or (suc n) (begins_with ms es (suc n)) (longest_prefix ms es n)
+longest_prefix ms es zero = prefix_or 0 (prefix_match ms es 0) None
+longest_prefix ms es (suc n) = prefix_or (suc n) (prefix_match ms es (suc n)) (longest_prefix ms es n)

@@ -7,7 +7,7 @@ use Rattle.def_script.specs.Program.{Program}
 use Rattle.def_explore.specs.Rests.{RunQuestion, KeptMessages}
 use Rattle.def_explore.specs.Answers.{RestEntry, AreSound, AreComplete}
 use Rattle.def_compare.specs.Traces.{TraceQuestion, IsShownBy, shown_pairs}
-use Rattle.def_compare.specs.Entries.{IsPossibleBy, IsImpossible, NoneBeginsWith, Match, Prefix, possible_by, begins_with, longest_prefix}
+use Rattle.def_compare.specs.Entries.{IsPossibleBy, IsImpossible, NoneBeginsWith, Match, Prefix, possible_by, prefix_match, longest_prefix}
 
 -- the partners that are computed are some by which the run shows the trace
 abbrev pub ComputedPairsShow : Type 0
@@ -39,10 +39,10 @@ PossibleIsNotImpossible =
 abbrev pub PrefixIsLongest : Type 0
 PrefixIsLongest =
     (ms : List Tree) (es : List RestEntry) (n : ℕ) (f : Prefix) → longest_prefix ms es n ≡ Some f →
-    (begins_with ms es f.count ≡ Some f.by) × ((k : ℕ) → f.count < k → k ≤ n → begins_with ms es k ≡ None)
+    (prefix_match ms es f.count ≡ Some f.by) × ((k : ℕ) → f.count < k → k ≤ n → prefix_match ms es k ≡ None)
 
 -- so that no run to rest does, where the entries are complete
 abbrev pub NoRunHasMore : Type 0
 NoRunHasMore =
     (q : RunQuestion) (ms : List Tree) (ss : List Name) (p : Program) (before : List ℕ) (es : List RestEntry) (n : ℕ) →
-    AreComplete q ss p before es → begins_with ms es n ≡ None → NoneBeginsWith q (take n ms) ss p before
+    AreComplete q ss p before es → prefix_match ms es n ≡ None → NoneBeginsWith q (take n ms) ss p before

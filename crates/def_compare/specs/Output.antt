@@ -5,7 +5,7 @@ use Rattle.def_term.specs.Tree.{Tree, pid}
 use Rattle.def_term.specs.Names.{Name}
 use Rattle.def_term.specs.Text.{w}
 use Rattle.def_run.specs.Listing.{header_line}
-use Rattle.def_explore.specs.Rests.{KeptMessages, kept_messages, kept_by_process, process_of, is_of_process}
+use Rattle.def_explore.specs.Rests.{KeptMessages, kept_messages, kept_by_process, message_process, is_of_process}
 use Rattle.def_explore.specs.Answers.{RestEntry}
 use Rattle.def_explore.specs.Output.{spaced_picks, closing_line, exploration_end_text}
 use Rattle.def_compare.specs.Traces.{TraceQuestion, lists_in, count_in}
@@ -19,13 +19,13 @@ partner_of [] n = None
 partner_of (p ∷ ps) n = if p.0 == n then Some p.1 else partner_of ps n
 
 -- the messages that are kept of a process
-abbrev pub messages_of : KeptMessages → ℕ → List Tree
-messages_of kept n = filter (is_of_process n) (flat_map (λ ms. ms) (lists_in kept))
+abbrev pub messages_of_process : KeptMessages → ℕ → List Tree
+messages_of_process kept n = filter (is_of_process n) (flat_map (λ ms. ms) (lists_in kept))
 
 -- the message that the partner of a process has after so many
-abbrev pub message_after : KeptMessages → Option ℕ → ℕ → Option Tree
-message_after kept None n = None
-message_after kept (Some m) n = slice_get (messages_of kept m) n
+abbrev pub message_of_partner_after : KeptMessages → Option ℕ → ℕ → Option Tree
+message_of_partner_after kept None n = None
+message_of_partner_after kept (Some m) n = slice_get (messages_of_process kept m) n
 
 -- the partner of the process that a message is of
 abbrev pub partner_in : List (ℕ × ℕ) → Option ℕ → Option ℕ
@@ -40,7 +40,7 @@ count_with ms (Some n) = length (filter (is_of_process n) ms)
 -- what is kept in the place of a message that comes after these
 abbrev pub message_there : KeptMessages → List (ℕ × ℕ) → List Tree → Tree → Option Tree
 message_there (kept_messages mss) ps before m = slice_get (flat_map (λ ms. ms) mss) (length before)
-message_there (kept_by_process psss) ps before m = message_after (kept_by_process psss) (partner_in ps (process_of m)) (count_with before (process_of m))
+message_there (kept_by_process psss) ps before m = message_of_partner_after (kept_by_process psss) (partner_in ps (message_process m)) (count_with before (message_process m))
 
 -- ---- lines
 
@@ -62,9 +62,9 @@ abbrev pub more_line : Prefix → List ℕ
 more_line f = codes "not in the trace: " ++ decimal (count_in f.by.entry.kept - f.count) ++ codes " more\n"
 
 -- the first message that the run doesn't have, and what it has there; where it has all, how many it has beside them
-abbrev pub difference_text : TraceQuestion → Prefix → Option Tree → List ℕ
-difference_text a f (Some t) = codes "not there: " ++ w t ++ 10 ∷ there_line (message_there f.by.entry.kept f.by.pairs (take f.count a.messages) t)
-difference_text a f None = more_line f
+abbrev pub trace_difference_text : TraceQuestion → Prefix → Option Tree → List ℕ
+trace_difference_text a f (Some t) = codes "not there: " ++ w t ++ 10 ∷ there_line (message_there f.by.entry.kept f.by.pairs (take f.count a.messages) t)
+trace_difference_text a f None = more_line f
 
 -- whether all states were tried
 abbrev pub no_match_word : Bool → List ℕ
@@ -72,20 +72,20 @@ no_match_word true = codes "impossible"
 no_match_word false = codes "unknown"
 
 -- the longest prefix, the run that begins with it, and where the two differ
-abbrev pub longest_text : TraceQuestion → Prefix → List ℕ
-longest_text a f =
+abbrev pub longest_prefix_text : TraceQuestion → Prefix → List ℕ
+longest_prefix_text a f =
     codes ": the longest prefix is " ++ decimal f.count ++ codes " of " ++ exploration_end_text (length a.messages) (codes "message") ++ codes ": journal"
-    ++ spaced_picks f.by.entry.journal ++ 10 ∷ flat_map pair_line f.by.pairs ++ difference_text a f (slice_get a.messages f.count)
+    ++ spaced_picks f.by.entry.journal ++ 10 ∷ flat_map pair_line f.by.pairs ++ trace_difference_text a f (slice_get a.messages f.count)
 
 -- those of a prefix, where some run was met
-abbrev pub prefix_text : TraceQuestion → Bool → Option Prefix → List ℕ
-prefix_text a whole None = no_match_word whole ++ codes ": no run to rest was met\n"
-prefix_text a whole (Some f) = no_match_word whole ++ longest_text a f
+abbrev pub trace_prefix_text : TraceQuestion → Bool → Option Prefix → List ℕ
+trace_prefix_text a whole None = no_match_word whole ++ codes ": no run to rest was met\n"
+trace_prefix_text a whole (Some f) = no_match_word whole ++ longest_prefix_text a f
 
 -- the run that shows the trace, or the longest prefix
 abbrev pub match_text : TraceQuestion → List RestEntry → Bool → Option Match → List ℕ
 match_text a es whole (Some m) = possible_text m
-match_text a es whole None = prefix_text a whole (longest_prefix a.messages es (length a.messages))
+match_text a es whole None = trace_prefix_text a whole (longest_prefix a.messages es (length a.messages))
 
 -- the sessions, the answer, and what was explored
 abbrev pub comparison_text : List (Name × Name) → TraceQuestion → List RestEntry → ℕ → Bool → List ℕ

@@ -3,7 +3,7 @@
 use Rattle.std.specs.Prelude.{◌≡◌, ◌==◌, ◌||◌, ℕ, Bool, false, if◌then◌else◌, List, [], ◌∷◌, ◌++◌, Option, Some, None, length, map, filter, flat_map}
 use Rattle.std.specs.List.{fold, list_any}
 use Rattle.def_term.specs.Tree.{Tree}
-use Rattle.def_explore.specs.Rests.{KeptMessages, kept_messages, kept_by_process, process_of, is_of_process}
+use Rattle.def_explore.specs.Rests.{KeptMessages, kept_messages, kept_by_process, message_process, is_of_process}
 use Rattle.def_renaming.specs.Renaming.{IsOneToOne, HaveRenamedBeginnings, first_renaming}
 
 -- the messages of a trace of one session, as a node printed them, and whether the run may have more of them
@@ -19,13 +19,13 @@ with_process ns None = ns
 with_process ns (Some n) = if list_any (λ m. m == n) ns then ns else ns ++ n ∷ []
 
 -- the processes that messages are of, by the first message of each
-abbrev pub processes_in : List Tree → List ℕ
-processes_in ms = fold (λ ns m. with_process ns (process_of m)) [] ms
+abbrev pub trace_processes : List Tree → List ℕ
+trace_processes ms = fold (λ ns m. with_process ns (message_process m)) [] ms
 
 -- those of the messages that are in an order: all of them, or those of each process
 abbrev pub orders_in : KeptMessages → List Tree → List (List Tree)
 orders_in (kept_messages mss) ms = ms ∷ []
-orders_in (kept_by_process psss) ms = map (λ n. filter (is_of_process n) ms) (processes_in ms)
+orders_in (kept_by_process psss) ms = map (λ n. filter (is_of_process n) ms) (trace_processes ms)
 
 -- what is kept, as lists that are in an order
 abbrev pub lists_in : KeptMessages → List (List Tree)

@@ -1,8 +1,8 @@
 //! Whether a run to rest shows the trace messages that a node printed.
 //!
-//! Depends on def_term, def_script, def_run, def_explore and def_renaming. Promises, as laws, that a trace which a sound
-//! entry shows is possible by its journal; that one which no entry shows, where they are complete, is impossible; and
-//! that the prefix which is found is the longest.
+//! Depends on def_term, def_script, def_run, def_explore and def_renaming. Promises, as laws, that a trace which a
+//! sound entry shows is possible by its journal; that one which no entry shows, where they are complete, is
+//! impossible; and that the prefix which is found is the longest.
 #![tactic(auto)]
 
 ghost use Rattle.def_compare.specs.Laws.{ComputedPairsShow, ShownHasPairs, MatchIsPossible, NoMatchIsImpossible};

@@ -33,9 +33,9 @@ pub data KeptMessages : Type 0 where
   kept_by_process : List (List (List Tree)) → KeptMessages
 
 -- the process that a message is of: {trace,Pid,..}
-abbrev pub process_of : Tree → Option ℕ
-process_of (tuple (more t (more (pid n) ts))) = Some n
-process_of _ = None
+abbrev pub message_process : Tree → Option ℕ
+message_process (tuple (more t (more (pid n) ts))) = Some n
+message_process _ = None
 
 -- the message is of this process
 abbrev pub is_of_process : ℕ → Tree → Bool

@@ -4,11 +4,11 @@ use Rattle.std.specs.List.{AllZip}
 use Rattle.def_term.specs.Tree.{Tree}
 use Rattle.def_text.proofs.One.{one}
 use Rattle.def_trace_text.specs.Lines.{is_passed_over, term_text}
-use Rattle.def_trace_text.specs.TraceTexts.{IsTraceLine, message_lines, LinesSpell, SpellsTrace}
+use Rattle.def_trace_text.specs.TraceTexts.{IsTraceLine, lines_with_messages, LinesSpell, SpellsTrace}
 
 -- what the lines spell with this one first, which is passed over or isn't
 abbrev WithLine : Bool → List ℕ → List (List ℕ) → List Tree → Type 0
-WithLine over line lines ts = AllZip IsTraceLine (cond (not over) (line ∷ message_lines lines) (message_lines lines)) ts
+WithLine over line lines ts = AllZip IsTraceLine (cond (not over) (line ∷ lines_with_messages lines) (lines_with_messages lines)) ts
 
 pub passed : (line : List ℕ) (lines : List (List ℕ)) (ts : List Tree) → is_passed_over line ≡ true → LinesSpell (line ∷ lines) ts → LinesSpell lines ts
 passed line lines ts e h = subst (λ b. WithLine b line lines ts) e h

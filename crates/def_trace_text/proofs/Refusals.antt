@@ -6,7 +6,7 @@ use Rattle.def_text.specs.Faults.{FaultKind}
 use Rattle.def_text.specs.Spelling.{LENGTH, Spells, IsRefusedAt}
 use Rattle.def_text.proofs.One.{one, refused}
 use Rattle.def_text.proofs.Either.{once, either}
-use Rattle.def_trace_text.specs.Lines.{text_lines, is_passed_over, term_text}
+use Rattle.def_trace_text.specs.Lines.{trace_text_lines, is_passed_over, term_text}
 use Rattle.def_trace_text.specs.Messages.{is_trace_message}
 use Rattle.def_trace_text.specs.TraceTexts.{IsTraceLine, LinesSpell, SpellsTrace, LineFault, too_long, no_term, no_message, HasFault, TraceRefusal, LinesHaveFault, IsTraceRefusal}
 use Rattle.def_trace_text.proofs.MessageLines.{passed, passed_more, read_first, message_more}
@@ -162,4 +162,4 @@ answer [] = inl ([], tt)
 answer (line ∷ lines) = one_more (is_passed_over line) line lines refl (answer lines)
 
 pub trace_or_refusal : (text : List ℕ) → ((ts : List Tree) × SpellsTrace text ts) ⊎ ((r : TraceRefusal) × IsTraceRefusal text r)
-trace_or_refusal text = answer (text_lines text)
+trace_or_refusal text = answer (trace_text_lines text)

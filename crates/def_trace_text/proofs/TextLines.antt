@@ -6,7 +6,7 @@ use Rattle.std.specs.Str.Lines.{lines_of_parts}
 use Rattle.std.proofs.lemmas.List.Splits.{join_with_byte-slice_split}
 use Rattle.std.proofs.lemmas.List.{take_more}
 use Rattle.std.proofs.Math.Seq.{take-length}
-use Rattle.def_trace_text.specs.Lines.{AreTextLines, text_lines}
+use Rattle.def_trace_text.specs.Lines.{AreTextLines, trace_text_lines}
 
 abbrev has_no_feed : List ℕ → Bool
 has_no_feed line = list_all (λ b. not (b == 10)) line
@@ -85,5 +85,5 @@ lines_of [] h = refl
 lines_of (x ∷ []) h = last_part (length x == 0) x refl h.0
 lines_of (x ∷ y ∷ more) h = line_with_end (slice_index x (length x - 1) == 13) x (join_with_byte 10 (y ∷ more)) refl h.0 (lines_of_parts (y ∷ more)) (lines_of (y ∷ more) h.1)
 
-pub lines_are : (text : List ℕ) → AreTextLines text (text_lines text)
-lines_are text = subst (λ t. AreTextLines t (text_lines text)) (join_with_byte-slice_split 10 text) (lines_of (slice_split (λ b. b == 10) text) (parts_have_none text))
+pub lines_are : (text : List ℕ) → AreTextLines text (trace_text_lines text)
+lines_are text = subst (λ t. AreTextLines t (trace_text_lines text)) (join_with_byte-slice_split 10 text) (lines_of (slice_split (λ b. b == 10) text) (parts_have_none text))

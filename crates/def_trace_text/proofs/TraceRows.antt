@@ -6,24 +6,24 @@ use Rattle.def_term.specs.Names.{word}
 use Rattle.std.specs.Fmt.{digits}
 use Rattle.def_term.specs.Text.{is_written_bare}
 use Rattle.def_text.proofs.Whole.{spells}
-use Rattle.def_trace_text.specs.Lines.{text_lines, is_passed_over, term_text}
+use Rattle.def_trace_text.specs.Lines.{trace_text_lines, is_passed_over, term_text}
 use Rattle.def_trace_text.specs.Messages.{is_trace_message}
 use Rattle.def_trace_text.specs.TraceTexts.{IsTraceLine, SpellsTrace, no_message, IsTraceRefusal}
 
 -- ---- lines
 
-pub no_line : text_lines [] ≡ []
+pub no_line : trace_text_lines [] ≡ []
 no_line = refl
 
 -- the last line may lack its line feed
-pub two_lines : text_lines (codes "a\nb") ≡ codes "a" ∷ codes "b" ∷ []
+pub two_lines : trace_text_lines (codes "a\nb") ≡ codes "a" ∷ codes "b" ∷ []
 two_lines = refl
 
-pub two_ended_lines : text_lines (codes "a\r\n\nb\n") ≡ codes "a" ∷ [] ∷ codes "b" ∷ []
+pub two_ended_lines : trace_text_lines (codes "a\r\n\nb\n") ≡ codes "a" ∷ [] ∷ codes "b" ∷ []
 two_ended_lines = refl
 
 -- a carriage return within a line ends nothing
-pub return_within : text_lines (codes "a\rb\n") ≡ codes "a\rb" ∷ []
+pub return_within : trace_text_lines (codes "a\rb\n") ≡ codes "a\rb" ∷ []
 return_within = refl
 
 pub blank_line : is_passed_over (codes " \t ") ≡ true

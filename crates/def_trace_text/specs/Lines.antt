@@ -17,8 +17,8 @@ AreTextLines text (line ∷ lines) =
     × (((lines ≡ []) × (text ≡ line)) ⊎ ((end : List ℕ) × (rest : List ℕ) × IsLineEnd end × (text ≡ line ++ (end ++ rest)) × AreTextLines rest lines))
 
 -- the same computed: what Rust's `str::lines` gives
-abbrev pub text_lines : List ℕ → List (List ℕ)
-text_lines text = lines text
+abbrev pub trace_text_lines : List ℕ → List (List ℕ)
+trace_text_lines text = lines text
 
 -- a line of blanks and a comment alone, or of nothing, is passed over
 abbrev pub is_passed_over : List ℕ → Bool

@@ -2,7 +2,7 @@
 -- Depends on their lines, and on what they spell and how they are refused.
 use Rattle.std.specs.Prelude.{◌≡◌, ◌↔◌, ◌⊎◌, ℕ, true, List}
 use Rattle.def_term.specs.Tree.{Tree}
-use Rattle.def_trace_text.specs.Lines.{AreTextLines, text_lines, IsTermText, term_text}
+use Rattle.def_trace_text.specs.Lines.{AreTextLines, trace_text_lines, IsTermText, term_text}
 use Rattle.def_trace_text.specs.Messages.{IsTraceMessage, is_trace_message}
 use Rattle.def_trace_text.specs.TraceTexts.{SpellsTrace, TraceRefusal, IsTraceRefusal}
 
@@ -10,7 +10,7 @@ use Rattle.def_trace_text.specs.TraceTexts.{SpellsTrace, TraceRefusal, IsTraceRe
 
 -- each text has its lines
 abbrev pub LinesAreThere : Type 0
-LinesAreThere = (text : List ℕ) → AreTextLines text (text_lines text)
+LinesAreThere = (text : List ℕ) → AreTextLines text (trace_text_lines text)
 
 -- each line has a text of a term
 abbrev pub TermTextIsThere : Type 0

@@ -5,7 +5,7 @@ use Rattle.std.specs.List.{AllZip, filter}
 use Rattle.def_term.specs.Tree.{Tree}
 use Rattle.def_text.specs.Faults.{FaultKind}
 use Rattle.def_text.specs.Spelling.{LENGTH, Spells, IsRefusedAt}
-use Rattle.def_trace_text.specs.Lines.{text_lines, is_passed_over, term_text}
+use Rattle.def_trace_text.specs.Lines.{trace_text_lines, is_passed_over, term_text}
 use Rattle.def_trace_text.specs.Messages.{is_trace_message}
 
 -- ---- messages
@@ -15,16 +15,16 @@ abbrev pub IsTraceLine : List ℕ → Tree → Type 0
 IsTraceLine line t = Spells (term_text line) t × (is_trace_message t ≡ true)
 
 -- the lines that aren't passed over
-abbrev pub message_lines : List (List ℕ) → List (List ℕ)
-message_lines lines = filter (λ line. not (is_passed_over line)) lines
+abbrev pub lines_with_messages : List (List ℕ) → List (List ℕ)
+lines_with_messages lines = filter (λ line. not (is_passed_over line)) lines
 
 -- each of them spells one message, and these are the messages in their order
 abbrev pub LinesSpell : List (List ℕ) → List Tree → Type 0
-LinesSpell lines ts = AllZip IsTraceLine (message_lines lines) ts
+LinesSpell lines ts = AllZip IsTraceLine (lines_with_messages lines) ts
 
 -- the text spells these trace messages
 abbrev pub SpellsTrace : List ℕ → List Tree → Type 0
-SpellsTrace text ts = LinesSpell (text_lines text) ts
+SpellsTrace text ts = LinesSpell (trace_text_lines text) ts
 
 -- ---- refusals
 
@@ -59,4 +59,4 @@ pub record LinesHaveFault (lines : List (List ℕ)) (r : TraceRefusal) : Type 0 
 
 -- the text has this refusal
 abbrev pub IsTraceRefusal : List ℕ → TraceRefusal → Type 0
-IsTraceRefusal text r = LinesHaveFault (text_lines text) r
+IsTraceRefusal text r = LinesHaveFault (trace_text_lines text) r

@@ -1,7 +1,7 @@
 //! Texts of trace messages, one message on a line, as a running node prints them.
 //!
-//! Depends on `def_term` and `def_text`. Promises, as laws: a text is its lines with their ends, a line is the text of a
-//! term, a full stop or none, and blanks, and a trace message is a tuple with `trace` and a pid first; a text spells
+//! Depends on `def_term` and `def_text`. Promises, as laws: a text is its lines with their ends, a line is the text of
+//! a term, a full stop or none, and blanks, and a trace message is a tuple with `trace` and a pid first; a text spells
 //! exactly one list of trace messages or is refused in exactly one way, and never both. There is no code.
 #![tactic(auto)]
 

@@ -2,8 +2,8 @@
 ghost use Rattle.std.specs.Prelude.{◌≡◌, ◌&&◌, ◌||◌, ◌++◌, IfOk, None, OnOk, flat_map, is_some, not, slice_get};
 ghost use Rattle.std.specs.Option.{option_map};
 ghost use Rattle.def_compare.specs.Entries.{possible_by};
-ghost use Rattle.def_compare.specs.Output.{difference_text, match_text, more_line, no_match_word};
-ghost use Rattle.def_compare.specs.Output.{longest_text, pair_line, possible_text, there_line};
+ghost use Rattle.def_compare.specs.Output.{trace_difference_text, match_text, more_line, no_match_word};
+ghost use Rattle.def_compare.specs.Output.{longest_prefix_text, pair_line, possible_text, there_line};
 ghost use Rattle.tn_comparison.specs.Matches.{match_seen, prefix_seen, trace_question_seen};
 ghost use Rattle.tn_explore.specs.Searches.{answer_entries};
 ghost use Rattle.tn_messages.specs.MessageViews.{kept_seen};
@@ -95,7 +95,7 @@ fn put_difference<A: Allocator + Copy, P: Allocator, B: Allocator>(
     out: &mut Vec<u8, B>,
 ) -> Result<(), AllocError>
     ensures { let a = trace_question_seen question.now in let f = prefix_seen prefix.now in
-        OnOk result (out.new.items ≡ out.old.items ++ difference_text a f (slice_get a.messages f.count)) }
+        OnOk result (out.new.items ≡ out.old.items ++ trace_difference_text a f (slice_get a.messages f.count)) }
 {
     let messages = question.messages.as_slice();
     let Some(message) = messages.get(prefix.count) else {
@@ -125,7 +125,7 @@ fn put_longest<A: Allocator + Copy, P: Allocator, B: Allocator>(
     out: &mut Vec<u8, B>,
 ) -> Result<(), AllocError>
     ensures { let a = trace_question_seen question.now in
-        OnOk result (out.new.items ≡ out.old.items ++ longest_text a (prefix_seen prefix.now)) }
+        OnOk result (out.new.items ≡ out.old.items ++ longest_prefix_text a (prefix_seen prefix.now)) }
 {
     out.extend_from_slice(b": the longest prefix is ")?;
     write_decimal(prefix.count, out)?;

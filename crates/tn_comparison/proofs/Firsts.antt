@@ -5,7 +5,7 @@ use Rattle.def_term.specs.Tree.{Tree}
 use Rattle.def_explore.specs.Answers.{RestEntry}
 use Rattle.def_explore.specs.Rests.{KeptMessages}
 use Rattle.def_compare.specs.Traces.{TraceQuestion, shown_pairs}
-use Rattle.def_compare.specs.Entries.{Match, Prefix, match_or, first_match, prefix_or, begins_with, longest_prefix}
+use Rattle.def_compare.specs.Entries.{Match, Prefix, match_or, first_match, prefix_or, prefix_match, longest_prefix}
 
 pub is_mapped : {X Y : Type 0} (f : X → Y) (o : Option X) (b : Bool) → is_some o ≡ b → is_some (option_map f o) ≡ b
 is_mapped f None b h = h
@@ -56,21 +56,21 @@ prefix_found n o m is = ap (λ p. prefix_or n p None) (sym is)
 pub no_prefix : (n : ℕ) (o : Option Match) → o ≡ None → None ≡ prefix_or n o None
 no_prefix n o is = ap (λ p. prefix_or n p None) (sym is)
 
-pub longest_here : (ms : List Tree) (es : List RestEntry) (n : ℕ) (o : Option Prefix) → is_some o ≡ true → o ≡ prefix_or n (begins_with ms es n) None → o ≡ longest_prefix ms es n
+pub longest_here : (ms : List Tree) (es : List RestEntry) (n : ℕ) (o : Option Prefix) → is_some o ≡ true → o ≡ prefix_or n (prefix_match ms es n) None → o ≡ longest_prefix ms es n
 longest_here ms es zero o some made = made
-longest_here ms es (suc n) o some made = go (begins_with ms es (suc n)) made
+longest_here ms es (suc n) o some made = go (prefix_match ms es (suc n)) made
   where
     go : (p : Option Match) → o ≡ prefix_or (suc n) p None → o ≡ prefix_or (suc n) p (longest_prefix ms es n)
     go (Some m) h = h
     go None h = absurd (not_none (sym some ∙ ap is_some h))
 
-shorter : (ms : List Tree) (es : List RestEntry) (n : ℕ) (o : Option Prefix) → is_some o ≡ false → o ≡ prefix_or (suc n) (begins_with ms es (suc n)) None → longest_prefix ms es (suc n) ≡ longest_prefix ms es n
-shorter ms es n o none made = go (begins_with ms es (suc n)) made
+shorter : (ms : List Tree) (es : List RestEntry) (n : ℕ) (o : Option Prefix) → is_some o ≡ false → o ≡ prefix_or (suc n) (prefix_match ms es (suc n)) None → longest_prefix ms es (suc n) ≡ longest_prefix ms es n
+shorter ms es n o none made = go (prefix_match ms es (suc n)) made
   where
     go : (p : Option Match) → o ≡ prefix_or (suc n) p None → prefix_or (suc n) p (longest_prefix ms es n) ≡ longest_prefix ms es n
     go (Some m) h = absurd (not_none (ap is_some (sym h) ∙ none))
     go None h = refl
 
-pub longest_later : (ms : List Tree) (es : List RestEntry) (m n : ℕ) (o : Option Prefix) → m ≡ suc n → is_some o ≡ false → o ≡ prefix_or m (begins_with ms es m) None → longest_prefix ms es m ≡ longest_prefix ms es n
+pub longest_later : (ms : List Tree) (es : List RestEntry) (m n : ℕ) (o : Option Prefix) → m ≡ suc n → is_some o ≡ false → o ≡ prefix_or m (prefix_match ms es m) None → longest_prefix ms es m ≡ longest_prefix ms es n
 longest_later ms es zero n o is none made = cc
 longest_later ms es (suc m) n o is none made = shorter ms es m o none made ∙ ap (longest_prefix ms es) (omega (arith, is))

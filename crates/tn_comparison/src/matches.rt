@@ -1,7 +1,8 @@
 // The entries that show a trace, or a prefix of it.
 ghost use Rattle.std.specs.Prelude.{◌≡◌, ◌≤◌, IfOk, None, Some, length, map, slice_get};
 ghost use Rattle.std.specs.Option.{option_map};
-ghost use Rattle.def_compare.specs.Entries.{begins_with, first_match, longest_prefix, match_or, possible_by, prefix_or};
+ghost use Rattle.def_compare.specs.Entries.{first_match, longest_prefix, match_or, possible_by};
+ghost use Rattle.def_compare.specs.Entries.{prefix_match, prefix_or};
 ghost use Rattle.def_compare.specs.Traces as traces;
 ghost use Rattle.def_compare.specs.Traces.{shown_pairs};
 ghost use Rattle.def_explore.specs.Answers.{RestEntry};
@@ -72,8 +73,8 @@ fn match_at<'e, P: Allocator, A: Allocator + Copy>(
     place: usize,
 ) -> Result<Option<TraceMatch<'e, A>>, AllocError>
     ensures { let es = answer_entries kept_seen answers.now.entries in
-        IfOk result (λ o. (a : traces.TraceQuestion) (e : RestEntry) → IsDemand a demand.now → slice_get es place ≡ Some e →
-        option_map match_seen o ≡ match_or e (shown_pairs a e.kept) None) }
+        IfOk result (λ o. (a : traces.TraceQuestion) (e : RestEntry) → IsDemand a demand.now →
+        slice_get es place ≡ Some e → option_map match_seen o ≡ match_or e (shown_pairs a e.kept) None) }
 {
     let Some((kept, journal)) = answers.get_index(place) else {
         return Ok(None);
@@ -145,7 +146,7 @@ pub fn possible_by<'e, P: Allocator, A: Allocator + Copy>(
 }
 
 /// The first of the entries that begins with so many of the messages.
-fn begins_with<'e, P: Allocator, A: Allocator + Copy>(
+fn prefix_match<'e, P: Allocator, A: Allocator + Copy>(
     alloc: A,
     messages: &[Term<P>],
     answers: &'e Answers<A, KeptListings<A>>,
@@ -153,7 +154,7 @@ fn begins_with<'e, P: Allocator, A: Allocator + Copy>(
 ) -> Result<Option<TracePrefix<'e, A>>, AllocError>
     requires { count ≤ length messages.now }
     ensures { let es = answer_entries kept_seen answers.now.entries in IfOk result (λ o.
-        option_map prefix_seen o ≡ prefix_or count (begins_with (map tree_of messages.now) es count) None) }
+        option_map prefix_seen o ≡ prefix_or count (prefix_match (map tree_of messages.now) es count) None) }
 {
     match first_with(alloc, &messages[..count], true, answers)? {
         Some(by) => Ok(Some(TracePrefix { count, by })),
@@ -175,10 +176,10 @@ pub fn longest_prefix<'e, P: Allocator, A: Allocator + Copy>(
         IfOk result (λ o. option_map prefix_seen o ≡ longest_prefix ms es (length ms)) }
 {
     for fewer in 0..messages.len() {
-        let found = begins_with(alloc, messages, answers, messages.len() - fewer)?;
+        let found = prefix_match(alloc, messages, answers, messages.len() - fewer)?;
         if found.is_some() {
             return Ok(found);
         }
     }
-    begins_with(alloc, messages, answers, 0)
+    prefix_match(alloc, messages, answers, 0)
 }

@@ -1,7 +1,7 @@
 // Those messages of a trace that are in an order.
 ghost use Rattle.std.specs.Prelude.{◌≡◌, ◌++◌, ◌∷◌, [], IfOk, OnOk, filter, map};
-ghost use Rattle.def_compare.specs.Traces.{orders_in, processes_in, with_process};
-ghost use Rattle.def_explore.specs.Rests.{is_of_process, process_of};
+ghost use Rattle.def_compare.specs.Traces.{orders_in, trace_processes, with_process};
+ghost use Rattle.def_explore.specs.Rests.{is_of_process, message_process};
 ghost use Rattle.tn_comparison.specs.Orders.{AreTraceOrders};
 ghost use Rattle.tn_messages.specs.MessageViews.{kept_seen};
 ghost use Rattle.tn_renaming.specs.Pairs.{lent_term_seen, lent_terms_seen};
@@ -9,7 +9,7 @@ ghost use Rattle.tn_term.specs.Views.{tree_of};
 
 use crate::lists::TermList;
 use std::alloc::{AllocError, Allocator};
-use tn_messages::{KeptListings, is_of_process, process_of};
+use tn_messages::{KeptListings, is_of_process, message_process};
 use tn_term::Term;
 
 /// Those messages of a trace that are in an order: all of them, and those of each process.
@@ -24,9 +24,10 @@ fn add_process<P: Allocator, A: Allocator>(
     message: &Term<P>,
     processes: &mut Vec<u32, A>,
 ) -> Result<(), AllocError>
-    ensures { OnOk result (processes.new.items ≡ with_process processes.old.items (process_of (tree_of message.now))) }
+    ensures { let process = message_process (tree_of message.now) in
+        OnOk result (processes.new.items ≡ with_process processes.old.items process) }
 {
-    let Some(pid) = process_of(message) else {
+    let Some(pid) = message_process(message) else {
         return Ok(());
     };
     if processes.contains(&pid) {
@@ -37,11 +38,11 @@ fn add_process<P: Allocator, A: Allocator>(
 }
 
 /// The processes that messages are of, by the first message of each.
-fn processes_in<P: Allocator, A: Allocator + Copy>(
+fn trace_processes<P: Allocator, A: Allocator + Copy>(
     alloc: A,
     messages: &[Term<P>],
 ) -> Result<Vec<u32, A>, AllocError>
-    ensures { IfOk result (λ v. v.items ≡ processes_in (map tree_of messages.now)) }
+    ensures { IfOk result (λ v. v.items ≡ trace_processes (map tree_of messages.now)) }
 {
     let mut processes = Vec::new(alloc);
     for message in messages {
@@ -81,7 +82,7 @@ fn add_message<'m, P: Allocator, A: Allocator>(
 }
 
 /// Those of some messages that are of a process.
-pub(crate) fn messages_of<'m, P: Allocator, A: Allocator + Copy>(
+pub(crate) fn messages_of_process<'m, P: Allocator, A: Allocator + Copy>(
     alloc: A,
     pid: u32,
     messages: &[&'m Term<P>],
@@ -106,7 +107,7 @@ fn messages_of_each<'m, P: Allocator, A: Allocator + Copy>(
 {
     let mut orders = Vec::with_capacity(alloc, processes.len())?;
     for pid in processes {
-        orders.push(messages_of(alloc, *pid, messages)?)?;
+        orders.push(messages_of_process(alloc, *pid, messages)?)?;
     }
     Ok(orders)
 }
@@ -125,7 +126,7 @@ impl<'m, P: Allocator, A: Allocator + Copy> TraceOrders<'m, P, A> {
         ensures { IfOk result (AreTraceOrders (map tree_of messages.now)) }
     {
         let list = all_of(alloc, messages)?;
-        let processes = processes_in(alloc, messages)?;
+        let processes = trace_processes(alloc, messages)?;
         let by_process = messages_of_each(alloc, &processes, &list)?;
         let mut all = Vec::new(alloc);
         all.push(list)?;

@@ -1,17 +1,18 @@
 // What a run has in the place of a message of a trace.
 ghost use Rattle.std.specs.Prelude.{◌≡◌, IfOk, filter, flat_map, length, map, slice_get};
 ghost use Rattle.std.specs.Option.{option_map};
-ghost use Rattle.def_compare.specs.Output.{count_with, message_after, message_there, messages_of, partner_in, partner_of};
+ghost use Rattle.def_compare.specs.Output.{count_with, message_of_partner_after, message_there, messages_of_process};
+ghost use Rattle.def_compare.specs.Output.{partner_in, partner_of};
 ghost use Rattle.def_compare.specs.Traces.{count_in, lists_in};
-ghost use Rattle.def_explore.specs.Rests.{is_of_process, process_of};
+ghost use Rattle.def_explore.specs.Rests.{is_of_process, message_process};
 ghost use Rattle.tn_messages.specs.MessageViews.{kept_seen};
 ghost use Rattle.tn_renaming.specs.Pairs.{pair_seen, lent_term_seen, lent_terms_seen};
 ghost use Rattle.tn_term.specs.Views.{tree_of};
 
 use crate::lists::{TermList, all_in, lists_in};
-use crate::orders::{all_of, messages_of};
+use crate::orders::{all_of, messages_of_process};
 use std::alloc::{AllocError, Allocator};
-use tn_messages::{KeptListings, process_of};
+use tn_messages::{KeptListings, message_process};
 use tn_renaming::PidPair;
 use tn_term::Term;
 
@@ -59,7 +60,7 @@ fn count_of<P: Allocator, A: Allocator + Copy>(
     ensures { IfOk result (λ n. n ≡ length (filter (is_of_process pid) (map tree_of messages.now))) }
 {
     let all = all_of(alloc, messages)?;
-    Ok(messages_of(alloc, pid, &all)?.len())
+    Ok(messages_of_process(alloc, pid, &all)?.len())
 }
 
 /// The message at a place of those of a process.
@@ -69,10 +70,11 @@ fn message_of<'e, A: Allocator + Copy>(
     pid: u32,
     place: usize,
 ) -> Result<Option<&'e Term<A>>, AllocError>
-    ensures { IfOk result (λ o. option_map lent_term_seen o ≡ slice_get (messages_of (kept_seen kept.now) pid) place) }
+    ensures { let messages = messages_of_process (kept_seen kept.now) pid in
+        IfOk result (λ o. option_map lent_term_seen o ≡ slice_get messages place) }
 {
     let all = all_kept(alloc, kept)?;
-    let messages = messages_of(alloc, pid, &all)?;
+    let messages = messages_of_process(alloc, pid, &all)?;
     Ok(messages.get(place).copied())
 }
 
@@ -97,12 +99,12 @@ fn message_of_partner<'e, P: Allocator, A: Allocator + Copy>(
     before: &[Term<P>],
     message: &Term<P>,
 ) -> Result<Option<&'e Term<A>>, AllocError>
-    ensures { let process = process_of (tree_of message.now) in
+    ensures { let process = message_process (tree_of message.now) in
         let partner = partner_in (map pair_seen pairs.now) process in
         let count = count_with (map tree_of before.now) process in
-        IfOk result (λ o. option_map lent_term_seen o ≡ message_after (kept_seen kept.now) partner count) }
+        IfOk result (λ o. option_map lent_term_seen o ≡ message_of_partner_after (kept_seen kept.now) partner count) }
 {
-    let Some(pid) = process_of(message) else {
+    let Some(pid) = message_process(message) else {
         return Ok(None);
     };
     let Some(partner) = partner_of(pairs, pid) else {

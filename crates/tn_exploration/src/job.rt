@@ -121,7 +121,8 @@ impl<A: Allocator + Copy> DirectJob<A> for ExploreRequest<'_> {
 }
 
 /// Explores all schedules of the script that the reader holds: writes the listings that they give, the words for the
-/// patterns, or whether the trace is possible; or the line of the refusal, or nothing where the moves are refused, as `tn_run::transact` says.
+/// patterns, or whether the trace is possible; or the line of the refusal, or nothing where the moves are refused, as
+/// `tn_run::transact` says.
 pub fn explore<A: Allocator + Copy, R: Read, W: Write>(
     alloc: A,
     reader: &mut Watched<R>,

@@ -5,7 +5,7 @@ use Rattle.std.proofs.Math.ListN.{set}
 use Rattle.std.proofs.lemmas.Bool.Decides.{nat_tests}
 use Rattle.def_term.specs.Tree.{Tree, int, atom, pid, tuple, list, none, more}
 use Rattle.def_run.specs.Round.{pass_from}
-use Rattle.def_explore.specs.Rests.{process_of, is_of_process, each_process, all_pids}
+use Rattle.def_explore.specs.Rests.{message_process, is_of_process, each_process, all_pids}
 use Rattle.tn_messages.specs.MessageViews.{pid_place, message_place}
 
 -- whether a message is of a process, by the process that it is of
@@ -13,7 +13,7 @@ abbrev is_process : Option ℕ → ℕ → Bool
 is_process None n = false
 is_process (Some m) n = m == n
 
-pub of_process : (n : ℕ) (t : Tree) → is_of_process n t ≡ is_process (process_of t) n
+pub of_process : (n : ℕ) (t : Tree) → is_of_process n t ≡ is_process (message_process t) n
 of_process n (int m) = refl
 of_process n (atom s) = refl
 of_process n (pid m) = refl
@@ -91,10 +91,10 @@ some_of (Some n) i e = elim (nat_lt n 100) as (λ b. nat_lt n 100 ≡ b → cond
 ] refl e
 
 pub none_more : (ms : List Tree) (m : Tree) → message_place m ≡ None → each_process all_pids (ms ++ m ∷ []) ≡ each_process all_pids ms
-none_more ms m e = missed_all ms m 64 100 (λ j below. of_process (100 + j) m ∙ none_of (process_of m) e j below)
+none_more ms m e = missed_all ms m 64 100 (λ j below. of_process (100 + j) m ∙ none_of (message_process m) e j below)
 
 pub one_more : (ms : List Tree) (m : Tree) (i : ℕ) → message_place m ≡ Some i → (i < 64) × (each_process all_pids (ms ++ m ∷ []) ≡ set (each_process all_pids ms) i (get_or (each_process all_pids ms) i [] ++ m ∷ []))
-one_more ms m i e = let h : (i < 64) × ((j : ℕ) → is_process (process_of m) j ≡ (100 + i == j)) = some_of (process_of m) i e in (h.0, passed_one ms m 64 100 i h.0 (λ j. of_process j m ∙ h.1 j))
+one_more ms m i e = let h : (i < 64) × ((j : ℕ) → is_process (message_process m) j ≡ (100 + i == j)) = some_of (message_process m) i e in (h.0, passed_one ms m 64 100 i h.0 (λ j. of_process j m ∙ h.1 j))
 
 pass_length : (k n : ℕ) → length (pass_from k n) ≡ k
 pass_length zero n = refl

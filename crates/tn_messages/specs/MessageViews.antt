@@ -6,7 +6,7 @@ use Rattle.def_term.specs.Alive.{FIRST_PID, PROCESSES}
 use Rattle.def_term.specs.Tree.{Tree}
 use Rattle.def_term.specs.Order.{same}
 use Rattle.def_term.specs.Text.{w}
-use Rattle.def_explore.specs.Rests.{RunQuestion, all_messages, by_process, KeptMessages, kept_messages, kept_by_process, process_of, each_process, all_pids}
+use Rattle.def_explore.specs.Rests.{RunQuestion, all_messages, by_process, KeptMessages, kept_messages, kept_by_process, message_process, each_process, all_pids}
 use Rattle.tn_text.specs.WrittenTrees.{written_tree}
 use Rattle.tn_messages.specs.declared.shared_message.SharedMessage.{SharedMessage}
 use Rattle.tn_messages.specs.declared.kept_listings.KeptListings.{KeptListings}
@@ -25,7 +25,7 @@ pid_place (Some n) = if nat_lt n FIRST_PID then None else if nat_lt (n - FIRST_P
 
 -- that of the process that a message is of
 abbrev pub message_place : Tree → Option ℕ
-message_place t = pid_place (process_of t)
+message_place t = pid_place (message_process t)
 
 -- both are the same message
 abbrev pub same_message : {A : Type 0} → SharedMessage A → SharedMessage A → Bool

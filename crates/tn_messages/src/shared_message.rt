@@ -2,7 +2,7 @@
 ghost use Rattle.std.specs.Prelude.{◌≡◌};
 ghost use Rattle.def_term.specs.Tree as Tree;
 ghost use Rattle.tn_term.specs.Views.{tree_of, trees_of};
-ghost use Rattle.def_explore.specs.Rests.{is_of_process, process_of};
+ghost use Rattle.def_explore.specs.Rests.{is_of_process, message_process};
 
 use std::alloc::{AllocError, Allocator};
 use std::hash::{Hash, Hasher};
@@ -27,7 +27,7 @@ fn pid_in<A: Allocator>(term: &Term<A>) -> Option<u32>
 
 /// The number of the pid that is the second of some terms.
 fn second_pid<A: Allocator>(items: &[Term<A>]) -> Option<u32>
-    ensures { result ≡ process_of (Tree.tuple (trees_of items.now)) }
+    ensures { result ≡ message_process (Tree.tuple (trees_of items.now)) }
 {
     if items.len() < 2 {
         return None;
@@ -36,8 +36,8 @@ fn second_pid<A: Allocator>(items: &[Term<A>]) -> Option<u32>
 }
 
 /// The number of the pid that is the second element of a tuple: the process that a trace message is of.
-pub fn process_of<A: Allocator>(term: &Term<A>) -> Option<u32>
-    ensures { result ≡ process_of (tree_of term.now) }
+pub fn message_process<A: Allocator>(term: &Term<A>) -> Option<u32>
+    ensures { result ≡ message_process (tree_of term.now) }
 {
     match term {
         Term::Tuple(items) => second_pid(items),
@@ -49,7 +49,7 @@ pub fn process_of<A: Allocator>(term: &Term<A>) -> Option<u32>
 pub fn is_of_process<A: Allocator>(pid: u32, term: &Term<A>) -> bool
     ensures { result ≡ is_of_process pid (tree_of term.now) }
 {
-    match process_of(term) {
+    match message_process(term) {
         Some(other) => other == pid,
         None => false,
     }
@@ -60,7 +60,7 @@ impl<A: Allocator> SharedMessage<A> {
     ghost use Rattle.def_term.specs.Text.{w};
     ghost use Rattle.tn_term.specs.Views.{tree_of};
     ghost use Rattle.tn_text.specs.WrittenTrees.{written_tree};
-    ghost use Rattle.def_explore.specs.Rests.{process_of};
+    ghost use Rattle.def_explore.specs.Rests.{message_process};
     ghost use Rattle.tn_messages.specs.MessageViews.{message_tree};
 
     /// The message, which has one owner more.
@@ -95,9 +95,9 @@ impl<A: Allocator> SharedMessage<A> {
 
     /// The pid of the process that the message is of.
     pub fn pid(&self) -> Option<u32>
-        ensures { result ≡ process_of (message_tree self.now) }
+        ensures { result ≡ message_process (message_tree self.now) }
     {
-        process_of(self.term())
+        message_process(self.term())
     }
 }
 

@@ -2,7 +2,8 @@
 ghost use Rattle.std.specs.Prelude.{◌≡◌, ◌++◌, ◌∷◌, IfErr, IfOk, OnOk, codes};
 ghost use Rattle.std.specs.Process.{exit_status};
 ghost use Rattle.tn_command.specs.Explorations.{IsExplorationStatus};
-ghost use Rattle.tn_request.specs.Comparisons.{IsTraceAsked, IsTraceFault, trace_fault_text};
+ghost use Rattle.tn_request.specs.Comparisons.{IsTraceAsked, trace_fault_text};
+ghost use Rattle.tn_trace_text.specs.Readings.{IsTraceFault};
 
 use crate::exploration::exploration_of;
 use crate::request::ExploreArgs;

@@ -6,7 +6,7 @@ use Rattle.std.proofs.lemmas.List.Splits.{slice_split_none, slice_split_first, l
 use Rattle.std.proofs.lemmas.List.Sums.{position_or_len_is, fails_before_first}
 use Rattle.std.proofs.lemmas.List.Quantifiers.{position-Some}
 use Rattle.std.proofs.lemmas.List.Elements.{All-from_get_or}
-use Rattle.def_trace_text.specs.Lines.{text_lines}
+use Rattle.def_trace_text.specs.Lines.{trace_text_lines}
 
 absent : (b : Bool) (i : ℕ) → cond b (Some i) None ≡ None → b ≡ false
 absent true i e = cc
@@ -42,11 +42,11 @@ part_before part [] some = absurd (omega (arith, some))
 part_before part (next ∷ more) some = refl
 
 -- a text with no line feed is one line
-pub line_alone : (text : List ℕ) → 0 < length text → position (λ b. b == 10) text ≡ None → text_lines text ≡ text ∷ []
+pub line_alone : (text : List ℕ) → 0 < length text → position (λ b. b == 10) text ≡ None → trace_text_lines text ≡ text ∷ []
 line_alone text some none = ap lines_of_parts (split_none is_line_feed text none) ∙ last_part text some
 
 -- what is before the first line feed is the first line
-pub line_first : (text : List ℕ) (end : ℕ) → position (λ b. b == 10) text ≡ Some end → text_lines text ≡ strip_carriage_return (take end text) ∷ text_lines (drop (end + 1) text)
+pub line_first : (text : List ℕ) (end : ℕ) → position (λ b. b == 10) text ≡ Some end → trace_text_lines text ≡ strip_carriage_return (take end text) ∷ trace_text_lines (drop (end + 1) text)
 line_first text end some =
     let count = length-slice_split is_line_feed (drop (end + 1) text) in
     ap lines_of_parts (split_some is_line_feed text end some) ∙ part_before (take end text) (slice_split is_line_feed (drop (end + 1) text)) (omega (arith, count))

@@ -9,12 +9,12 @@ use Rattle.tn_trace_text.specs.declared.fault.TraceFault.{TraceFault}
 use Rattle.tn_trace_text.specs.declared.fault.TraceFault.TheVariants.{NoTerm, NoMessage, OutOfMemory}
 
 -- why a line spells no term; refused memory says nothing of it
-abbrev pub term_fault_seen : TextFault → Option LineFault
-term_fault_seen faults.TooLong = Some too_long
-term_fault_seen (faults.Token at) = Some (no_term misplaced at)
-term_fault_seen (faults.TooDeep at) = Some (no_term too_deep at)
-term_fault_seen (faults.TooLarge at) = Some (no_term too_large at)
-term_fault_seen faults.OutOfMemory = None
+abbrev pub line_fault_seen : TextFault → Option LineFault
+line_fault_seen faults.TooLong = Some too_long
+line_fault_seen (faults.Token at) = Some (no_term misplaced at)
+line_fault_seen (faults.TooDeep at) = Some (no_term too_deep at)
+line_fault_seen (faults.TooLarge at) = Some (no_term too_large at)
+line_fault_seen faults.OutOfMemory = None
 
 -- the fault of the line of this number, whose term's text is refused
 abbrev pub term_fault_at : ℕ → TextFault → TraceFault

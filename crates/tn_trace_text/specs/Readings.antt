@@ -7,7 +7,7 @@ use Rattle.def_trace_text.specs.Lines.{is_passed_over}
 use Rattle.def_trace_text.specs.TraceTexts.{IsTraceLine, LinesSpell, SpellsTrace, LineFault, no_message, HasFault, IsTraceRefusal}
 use Rattle.tn_term.specs.declared.term.Term.{Term}
 use Rattle.tn_term.specs.Views.{tree_of}
-use Rattle.tn_trace_text.specs.Faults.{term_fault_seen}
+use Rattle.tn_trace_text.specs.Faults.{line_fault_seen}
 use Rattle.tn_trace_text.specs.declared.fault.TraceFault.{TraceFault}
 use Rattle.tn_trace_text.specs.declared.fault.TraceFault.TheVariants.{NoTerm, NoMessage, OutOfMemory}
 
@@ -15,7 +15,7 @@ use Rattle.tn_trace_text.specs.declared.fault.TraceFault.TheVariants.{NoTerm, No
 
 -- the fault of this line, which has this number; refused memory says nothing of it
 abbrev pub IsLineFault : List ℕ → ℕ → TraceFault → Type 0
-IsLineFault line n (NoTerm m fault) = (m ≡ n) × IsSomeAnd (term_fault_seen fault) (HasFault line)
+IsLineFault line n (NoTerm m fault) = (m ≡ n) × IsSomeAnd (line_fault_seen fault) (HasFault line)
 IsLineFault line n (NoMessage m) = (m ≡ n) × HasFault line no_message
 IsLineFault line n OutOfMemory = Unit {0}
 
@@ -38,7 +38,7 @@ IsContentFault line n fault = (is_passed_over line ≡ false) × IsLineFault lin
 
 -- the refusal of the text; refused memory says nothing of it
 abbrev pub IsTraceFault : List ℕ → TraceFault → Type 0
-IsTraceFault text (NoTerm n fault) = IsSomeAnd (term_fault_seen fault) (λ f. IsTraceRefusal text (record { line = n; fault = f }))
+IsTraceFault text (NoTerm n fault) = IsSomeAnd (line_fault_seen fault) (λ f. IsTraceRefusal text (record { line = n; fault = f }))
 IsTraceFault text (NoMessage n) = IsTraceRefusal text (record { line = n; fault = no_message })
 IsTraceFault text OutOfMemory = Unit {0}
 

@@ -1,7 +1,7 @@
 // One line of a text of trace messages.
 ghost use Rattle.std.specs.Prelude.{◌≡◌, ◌==◌, ◌∷◌, ◌<◌, length};
 ghost use Rattle.std.specs.List.{position};
-ghost use Rattle.def_trace_text.specs.Lines.{text_lines, is_passed_over, without_blanks, without_end, term_text};
+ghost use Rattle.def_trace_text.specs.Lines.{trace_text_lines, is_passed_over, without_blanks, without_end, term_text};
 
 use tn_text::{gap_len, is_blank};
 
@@ -26,7 +26,7 @@ fn line_feed_at(text: &[u8]) -> Option<usize>
 /// The first line of a text that isn't empty, and what is after the line's end.
 pub(crate) fn first_line(text: &[u8]) -> (&[u8], &[u8])
     requires { 0 < length text.now }
-    ensures cut { text_lines text.now ≡ result.0.now ∷ text_lines result.1.now }
+    ensures cut { trace_text_lines text.now ≡ result.0.now ∷ trace_text_lines result.1.now }
     ensures shorter { length result.1.now < length text.now }
 {
     match line_feed_at(text) {

@@ -5,7 +5,7 @@ use Rattle.std.specs.Prelude.{Some, slice_get}
 use Rattle.std.specs.Option.{option_map}
 use Rattle.def_term.specs.Tree.{Tree}
 use Rattle.def_term.specs.Text.{w}
-use Rattle.def_compare.specs.Output.{difference_text, there_line, message_there}
+use Rattle.def_compare.specs.Output.{trace_difference_text, there_line, message_there}
 use Rattle.tn_comparison.specs.Matches.{trace_question_seen, prefix_seen}
 use Rattle.tn_messages.specs.MessageViews.{kept_seen}
 use Rattle.tn_renaming.specs.Pairs.{pair_seen, lent_term_seen}
@@ -37,4 +37,4 @@ returns g c =
     before_rest o0 (codes "not there: ") o1 (w t ++ 10 ∷ line) o4 c.in_ok-extend_from_slice.ensures.items
     (before_rest o1 (w t) o2 (10 ∷ line) o4 c.in_ok-write_term.ensures.ok (before_rest o2 (10 ∷ []) o3 line o4 c.in_ok-push.ensures.items c.in_ok-put_there.ensures))
     ∙ ap (λ o. o0 ++ (codes "not there: " ++ (w t ++ 10 ∷ there_line o))) there
-    ∙ ap (λ o. o0 ++ difference_text a f o) (sym got)
+    ∙ ap (λ o. o0 ++ trace_difference_text a f o) (sym got)

@@ -1,7 +1,7 @@
 use Rattle.std.proofs.Common.{◌∙◌, ◌++◌, ◌∷◌, [], ℕ, ap, sym, codes, map, length, flat_map, decimal}
 use Rattle.std.proofs.lemmas.List.{length-map}
 use Rattle.std.specs.Prelude.{slice_get}
-use Rattle.def_compare.specs.Output.{difference_text, pair_line}
+use Rattle.def_compare.specs.Output.{trace_difference_text, pair_line}
 use Rattle.def_explore.specs.Output.{exploration_end_text, spaced_picks}
 use Rattle.tn_comparison.specs.Matches.{trace_question_seen, prefix_seen}
 use Rattle.tn_renaming.specs.Pairs.{pair_seen}
@@ -24,7 +24,7 @@ returns g c =
     let o7 = c.push.new.self.items in
     let o8 = c.put_pairs.new.out.items in
     let o9 = c.put_difference.new.out.items in
-    let rest = difference_text a f (slice_get a.messages f.count) in
+    let rest = trace_difference_text a f (slice_get a.messages f.count) in
     let pairs = flat_map pair_line f.by.pairs in
     let picks = spaced_picks f.by.entry.journal in
     let count = exploration_end_text (length a.messages) (codes "message") in

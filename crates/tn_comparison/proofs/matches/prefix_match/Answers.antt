@@ -9,7 +9,7 @@ use Rattle.tn_messages.specs.MessageViews.{kept_seen}
 use Rattle.tn_term.specs.Views.{tree_of}
 use Rattle.tn_comparison.specs.Matches.{match_seen}
 use Rattle.tn_comparison.proofs.Firsts.{prefix_found, no_prefix}
-use Rattle.tn_comparison.proofs.matches.begins_with.Goals as goal
+use Rattle.tn_comparison.proofs.matches.prefix_match.Goals as goal
 
 pub returns-in-Some : goal.returns-in-Some
 returns-in-Some g c =
