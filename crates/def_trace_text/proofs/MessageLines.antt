@@ -4,6 +4,7 @@ use Rattle.std.specs.List.{AllZip}
 use Rattle.def_term.specs.Tree.{Tree}
 use Rattle.def_text.proofs.One.{one}
 use Rattle.def_trace_text.specs.Lines.{is_passed_over, term_text}
+use Rattle.def_trace_text.specs.StackTraces.{without_stacks}
 use Rattle.def_trace_text.specs.TraceTexts.{IsTraceLine, lines_with_messages, LinesSpell, SpellsTrace}
 
 -- what the lines spell with this one first, which is passed over or isn't
@@ -36,6 +37,9 @@ message_more line lines t ts e s h = subst (λ b. WithLine b line lines (t ∷ t
 
 -- ---- one list
 
+same_message : (line : List ℕ) (t u : Tree) → IsTraceLine line t → IsTraceLine line u → t ≡ u
+same_message line t u h g = h.value ∙ ap without_stacks (one (term_text line) h.term g.term h.spelled g.spelled) ∙ sym g.value
+
 same_messages : (lines : List (List ℕ)) (ts us : List Tree) → AllZip IsTraceLine lines ts → AllZip IsTraceLine lines us → ts ≡ us
 same_messages [] [] [] h g = refl
 same_messages [] [] (u ∷ us) h g = absurd g
@@ -43,7 +47,7 @@ same_messages [] (t ∷ ts) us h g = absurd h
 same_messages (line ∷ lines) [] us h g = absurd h
 same_messages (line ∷ lines) (t ∷ ts) [] h g = absurd g
 same_messages (line ∷ lines) (t ∷ ts) (u ∷ us) h g =
-    let first : t ≡ u = one (term_text line) t u h.0.0 g.0.0 in
+    let first : t ≡ u = same_message line t u h.0 g.0 in
     let others : ts ≡ us = same_messages lines ts us h.1 g.1 in
     ap (λ x. x ∷ ts) first ∙ ap (λ xs. u ∷ xs) others
 

@@ -8,6 +8,7 @@ use Rattle.def_text.proofs.One.{one, refused}
 use Rattle.def_text.proofs.Either.{once, either}
 use Rattle.def_trace_text.specs.Lines.{trace_text_lines, is_passed_over, term_text}
 use Rattle.def_trace_text.specs.Messages.{is_trace_message}
+use Rattle.def_trace_text.specs.StackTraces.{without_stacks}
 use Rattle.def_trace_text.specs.TraceTexts.{IsTraceLine, LinesSpell, SpellsTrace, LineFault, too_long, no_term, no_message, HasFault, TraceRefusal, LinesHaveFault, IsTraceRefusal}
 use Rattle.def_trace_text.proofs.MessageLines.{passed, passed_more, read_first, message_more}
 
@@ -15,11 +16,11 @@ use Rattle.def_trace_text.proofs.MessageLines.{passed, passed_more, read_first, 
 
 -- a line that spells a message has no fault
 fault_refuses : (line : List ℕ) (t : Tree) (f : LineFault) → IsTraceLine line t → HasFault line f → ⊥
-fault_refuses line t too_long s h = let short = s.0.short in omega (arith, short, h)
-fault_refuses line t (no_term kind at) s h = refused (term_text line) t kind at s.0 h
+fault_refuses line t too_long s h = let short = s.spelled.short in omega (arith, short, h)
+fault_refuses line t (no_term kind at) s h = refused (term_text line) s.term kind at s.spelled h
 fault_refuses line t no_message s (u, spelled, is) =
-    let same : t ≡ u = one (term_text line) t u s.0 spelled in
-    let yes : is_trace_message u ≡ true = subst (λ x. is_trace_message x ≡ true) same s.1 in
+    let same : s.term ≡ u = one (term_text line) s.term u s.spelled spelled in
+    let yes : is_trace_message u ≡ true = subst (λ x. is_trace_message x ≡ true) same s.is_message in
     cc
 
 same_kind : (line : List ℕ) (kind other : FaultKind) (at there : ℕ) → HasFault line (no_term kind at) → HasFault line (no_term other there) → no_term kind at ≡ no_term other there
@@ -113,7 +114,7 @@ term_or_fault line = by_length line (cases_lt LENGTH (length (term_text line)))
     by_length l (inr short) = refused_kind (either (term_text line) short)
 
 by_message : (b : Bool) (line : List ℕ) (t : Tree) → is_trace_message t ≡ b → Spells (term_text line) t → ((t : Tree) × IsTraceLine line t) ⊎ ((f : LineFault) × HasFault line f)
-by_message true line t e s = inl (t, (s, e))
+by_message true line t e s = inl (without_stacks t, record { term = t; spelled = s; is_message = e; value = refl })
 by_message false line t e s = inr (no_message, (t, s, e))
 
 -- a line spells a message or has a fault

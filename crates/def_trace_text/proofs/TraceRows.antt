@@ -1,13 +1,14 @@
--- Rows: small texts of trace messages, the lines of a text, which lines are passed over, the text of a line's term, and which terms are trace messages.
+-- Rows: small texts of trace messages, the lines of a text, which lines are passed over, the text of a line's term, which terms are trace messages, and terms without stack traces.
 use Rattle.std.proofs.Common.{◌≡◌, pos, [], ◌∷◌, true, false, codes, refl}
 use Rattle.std.proofs.Math.Dec.{lit≤}
-use Rattle.def_term.specs.Tree.{Tree, int, pid, tuple, list, of_elements}
+use Rattle.def_term.specs.Tree.{Tree, int, pid, tuple, list, none, of_elements}
 use Rattle.def_term.specs.Names.{word}
 use Rattle.std.specs.Fmt.{digits}
 use Rattle.def_term.specs.Text.{is_written_bare}
 use Rattle.def_text.proofs.Whole.{spells}
 use Rattle.def_trace_text.specs.Lines.{trace_text_lines, is_passed_over, term_text}
 use Rattle.def_trace_text.specs.Messages.{is_trace_message}
+use Rattle.def_trace_text.specs.StackTraces.{without_stacks}
 use Rattle.def_trace_text.specs.TraceTexts.{IsTraceLine, SpellsTrace, no_message, IsTraceRefusal}
 
 -- ---- lines
@@ -88,15 +89,37 @@ no_pid = refl
 pub no_tuple : is_trace_message (list (of_elements (word "trace" ∷ pid 100 ∷ word "a" ∷ []))) ≡ false
 no_tuple = refl
 
+-- ---- stack traces
+
+-- {m,f,1,[{line,7}]}
+abbrev entry : Tree → Tree
+entry a = tuple (of_elements (word "m" ∷ word "f" ∷ a ∷ list (of_elements (tuple (of_elements (word "line" ∷ int (pos 7) ∷ [])) ∷ [])) ∷ []))
+
+-- {badarg,[{m,f,1,[{line,7}]},{m,f,[a],[{line,7}]}]}
+pub reason_with_stack : without_stacks (tuple (of_elements (word "badarg" ∷ list (of_elements (entry (int (pos 1)) ∷ entry (list (of_elements (word "a" ∷ []))) ∷ [])) ∷ []))) ≡ tuple (of_elements (word "badarg" ∷ list none ∷ []))
+reason_with_stack = refl
+
+-- [{m,f,1,[{line,7}]},a]: not each element is an entry
+pub list_with_entry : without_stacks (list (of_elements (entry (int (pos 1)) ∷ word "a" ∷ []))) ≡ list (of_elements (entry (int (pos 1)) ∷ word "a" ∷ []))
+list_with_entry = refl
+
+-- [{m,f,a,[{line,7}]}]: the atom is neither an arity nor arguments
+pub no_entry : without_stacks (list (of_elements (entry (word "a") ∷ []))) ≡ list (of_elements (entry (word "a") ∷ []))
+no_entry = refl
+
+-- [[{m,f,1,[{line,7}]}]]
+pub stack_within : without_stacks (list (of_elements (list (of_elements (entry (int (pos 1)) ∷ [])) ∷ []))) ≡ list (of_elements (list none ∷ []))
+stack_within = refl
+
 -- ---- texts
 
 exit_line : IsTraceLine (codes "{trace,<0.100.0>,exit,normal}.") exit_message
 unfolding is_written_bare digits
-exit_line = (spells exit_message refl (record { nests = lit≤ tt; sizes = refl }) (lit≤ tt), refl)
+exit_line = record { term = exit_message; spelled = spells exit_message refl (record { nests = lit≤ tt; sizes = refl }) (lit≤ tt); is_message = refl; value = refl }
 
 call_line : IsTraceLine (codes "{trace,<0.100.0>,call,{m,f,[1]}}") call_message
 unfolding is_written_bare digits
-call_line = (spells call_message refl (record { nests = lit≤ tt; sizes = refl }) (lit≤ tt), refl)
+call_line = record { term = call_message; spelled = spells call_message refl (record { nests = lit≤ tt; sizes = refl }) (lit≤ tt); is_message = refl; value = refl }
 
 pub empty_text : SpellsTrace [] []
 empty_text = tt

@@ -1,4 +1,5 @@
 pub mod Lines
 pub mod Messages
+pub mod StackTraces
 pub mod TraceTexts
 pub mod TraceLaws

@@ -1,5 +1,5 @@
 -- Which trace messages a text spells, one on a line, and how a text that spells none is refused (own).
--- Depends on the lines of such a text, on trace messages and on the terms that texts spell.
+-- Depends on the lines of such a text, on trace messages, on stack traces and on the terms that texts spell.
 use Rattle.std.specs.Prelude.{◌≡◌, ℕ, ◌+◌, ◌<◌, true, false, not, List, ◌∷◌, ◌++◌, length}
 use Rattle.std.specs.List.{AllZip, filter}
 use Rattle.def_term.specs.Tree.{Tree}
@@ -7,12 +7,16 @@ use Rattle.def_text.specs.Faults.{FaultKind}
 use Rattle.def_text.specs.Spelling.{LENGTH, Spells, IsRefusedAt}
 use Rattle.def_trace_text.specs.Lines.{trace_text_lines, is_passed_over, term_text}
 use Rattle.def_trace_text.specs.Messages.{is_trace_message}
+use Rattle.def_trace_text.specs.StackTraces.{without_stacks}
 
 -- ---- messages
 
--- the line spells this trace message, with a full stop or without
-abbrev pub IsTraceLine : List ℕ → Tree → Type 0
-IsTraceLine line t = Spells (term_text line) t × (is_trace_message t ≡ true)
+-- the line spells this trace message, with a full stop or without; a stack trace in its term is the empty list
+pub record IsTraceLine (line : List ℕ) (t : Tree) : Type 0 where
+  pub term : Tree
+  pub spelled : Spells (term_text line) term
+  pub is_message : is_trace_message term ≡ true
+  pub value : t ≡ without_stacks term
 
 -- the lines that aren't passed over
 abbrev pub lines_with_messages : List (List ℕ) → List (List ℕ)

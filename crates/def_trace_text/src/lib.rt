@@ -1,4 +1,5 @@
-//! Texts of trace messages, one message on a line, as a running node prints them.
+//! Texts of trace messages, one message on a line, as a running node prints them. A stack trace in a message is the
+//! empty list.
 //!
 //! Depends on `def_term` and `def_text`. Promises, as laws: a text is its lines with their ends, a line is the text of
 //! a term, a full stop or none, and blanks, and a trace message is a tuple with `trace` and a pid first; a text spells

@@ -1,9 +1,10 @@
 -- A text that is read up to a line.
-use Rattle.std.proofs.Common.{◌≡◌, ◌∙◌, ℕ, ◌+◌, ◌==◌, Bool, true, false, List, [], ◌∷◌, ◌++◌, length, map, None, Some, refl, ap, sym, subst, arith, append_assoc, append-nil, length-append}
+use Rattle.std.proofs.Common.{◌≡◌, ◌∙◌, ℕ, ◌+◌, ◌==◌, Bool, true, false, List, [], ◌∷◌, ◌++◌, length, map, None, Some, Result, Ok, Err, refl, ap, sym, subst, arith, append_assoc, append-nil, length-append}
 use Rattle.std.proofs.lemmas.List.{map-append}
 use Rattle.std.specs.List.{AllZip, filter}
 use Rattle.std.proofs.lemmas.List.Elements.{filter-append}
 use Rattle.def_term.specs.Tree.{Tree}
+use Rattle.def_text.specs.Spelling.{Spells}
 use Rattle.tn_term.specs.declared.term.Term.{Term}
 use Rattle.tn_term.specs.Views.{tree_of}
 use Rattle.def_trace_text.specs.Lines.{trace_text_lines, is_passed_over, term_text}
@@ -14,7 +15,7 @@ use Rattle.tn_text.specs.declared.fault.TextFault.{TextFault}
 use Rattle.tn_text.specs.declared.fault.TextFault.TheVariants as faults
 use Rattle.tn_text.specs.Answers.{IsTextRefusal}
 use Rattle.tn_trace_text.specs.Faults.{line_fault_seen, term_fault_at}
-use Rattle.tn_trace_text.specs.Readings.{IsLineFault, AddsLine, IsContentFault, IsTraceFault}
+use Rattle.tn_trace_text.specs.Readings.{IsLineFault, IsMessageOfLine, IsLineRead, AddsLine, IsContentFault, IsTraceFault}
 use Rattle.tn_trace_text.specs.declared.fault.TraceFault.{TraceFault}
 use Rattle.tn_trace_text.specs.declared.fault.TraceFault.TheVariants.{NoTerm, NoMessage, OutOfMemory}
 
@@ -92,3 +93,10 @@ line_fault line n (faults.Token at) h = (refl, h)
 line_fault line n (faults.TooDeep at) h = (refl, h)
 line_fault line n (faults.TooLarge at) h = (refl, h)
 line_fault line n faults.OutOfMemory h = tt
+
+-- what a term of a line is, is read of the line
+pub message_line : {A : Type 0} (line : List ℕ) (u : Tree) (n : ℕ) (r : Result (Term A) TraceFault) → Spells (term_text line) u → IsMessageOfLine u n r → IsLineRead line n r
+message_line line u n (Ok t) s h = record { term = u; spelled = s; is_message = h.0; value = h.1 }
+message_line line u n (Err (NoTerm m fault)) s h = absurd h
+message_line line u n (Err (NoMessage m)) s h = (h.0, (u, s, h.1))
+message_line line u n (Err OutOfMemory) s h = tt

@@ -1,9 +1,11 @@
 -- What is read of a line, and of a text.
 -- Depends on what lines and texts spell, and on how they are refused.
-use Rattle.std.specs.Prelude.{◌≡◌, ℕ, List, [], ◌∷◌, ◌++◌, false, map, Result, Ok, Err, IsSomeAnd}
+use Rattle.std.specs.Prelude.{◌≡◌, ℕ, List, [], ◌∷◌, ◌++◌, true, false, map, Result, Ok, Err, IsSomeAnd}
 use Rattle.std.specs.declared.vec.Vec.{Vec}
 use Rattle.def_term.specs.Tree.{Tree}
 use Rattle.def_trace_text.specs.Lines.{is_passed_over}
+use Rattle.def_trace_text.specs.Messages.{is_trace_message}
+use Rattle.def_trace_text.specs.StackTraces.{without_stacks}
 use Rattle.def_trace_text.specs.TraceTexts.{IsTraceLine, LinesSpell, SpellsTrace, LineFault, no_message, HasFault, IsTraceRefusal}
 use Rattle.tn_term.specs.declared.term.Term.{Term}
 use Rattle.tn_term.specs.Views.{tree_of}
@@ -18,6 +20,13 @@ abbrev pub IsLineFault : List ℕ → ℕ → TraceFault → Type 0
 IsLineFault line n (NoTerm m fault) = (m ≡ n) × IsSomeAnd (line_fault_seen fault) (HasFault line)
 IsLineFault line n (NoMessage m) = (m ≡ n) × HasFault line no_message
 IsLineFault line n OutOfMemory = Unit {0}
+
+-- the message that a term of the line of this number is, or that it is none; refused memory says nothing of it
+abbrev pub IsMessageOfLine : {A : Type 0} → Tree → ℕ → Result (Term A) TraceFault → Type 0
+IsMessageOfLine u n (Ok t) = (is_trace_message u ≡ true) × (tree_of t ≡ without_stacks u)
+IsMessageOfLine u n (Err (NoTerm m fault)) = ⊥
+IsMessageOfLine u n (Err (NoMessage m)) = (m ≡ n) × (is_trace_message u ≡ false)
+IsMessageOfLine u n (Err OutOfMemory) = Unit {0}
 
 -- the message that the line spells, or its fault
 abbrev pub IsLineRead : {A : Type 0} → List ℕ → ℕ → Result (Term A) TraceFault → Type 0

@@ -1,11 +1,13 @@
 // A text of trace messages, read line by line.
 ghost use Rattle.std.specs.Prelude.{◌≡◌, IfOk, IfErr};
+ghost use Rattle.tn_term.specs.Views.{tree_of};
 ghost use Rattle.tn_trace_text.specs.Faults.{term_fault_at};
-ghost use Rattle.tn_trace_text.specs.Readings.{IsLineRead, AddsLine, IsContentFault, IsTraceRead};
+ghost use Rattle.tn_trace_text.specs.Readings.{IsMessageOfLine, IsLineRead, AddsLine, IsContentFault, IsTraceRead};
 
 use crate::fault::TraceFault;
 use crate::line::{first_line, is_passed_over, term_text};
 use crate::message::is_trace_message;
+use crate::stack_trace::without_stacks;
 use std::alloc::Allocator;
 use tn_term::Term;
 use tn_text::{TextFault, read_term};
@@ -23,6 +25,23 @@ fn fault_at(line: usize, fault: TextFault) -> TraceFault
     }
 }
 
+/// The trace message that a term of the line of this number is, without stack traces.
+fn message_of<A: Allocator + Copy>(
+    alloc: A,
+    term: &Term<A>,
+    number: usize,
+) -> Result<Term<A>, TraceFault>
+    ensures { IsMessageOfLine (tree_of term.now) number result }
+{
+    if !is_trace_message(term) {
+        return Err(TraceFault::NoMessage { line: number });
+    }
+    match without_stacks(alloc, term) {
+        Ok(message) => Ok(message),
+        Err(_) => Err(TraceFault::OutOfMemory),
+    }
+}
+
 /// The trace message that a line spells, which has this number.
 fn read_line<A: Allocator + Copy>(
     alloc: A,
@@ -33,13 +52,7 @@ fn read_line<A: Allocator + Copy>(
 {
     match read_term(alloc, term_text(line)) {
         Err(fault) => Err(fault_at(number, fault)),
-        Ok(term) => {
-            if is_trace_message(&term) {
-                Ok(term)
-            } else {
-                Err(TraceFault::NoMessage { line: number })
-            }
-        }
+        Ok(term) => message_of(alloc, &term, number),
     }
 }
 
@@ -65,8 +78,9 @@ fn add_line<A: Allocator + Copy>(
 
 /// The trace messages that a text spells, one on a line, in their order. A line of blanks and of a comment alone is
 /// passed over; every other one spells a trace message, with a full stop at its end or without. A line ends with a line
-/// feed, or with a carriage return and a line feed, and the last one may lack its end. Each byte is read a few times
-/// at most. Beside the messages it allocates what `read_term` does.
+/// feed, or with a carriage return and a line feed, and the last one may lack its end. A stack trace in a message is
+/// the empty list. Each byte is read a few times at most. Beside the messages it allocates for one line after the other
+/// what `read_term` does.
 ///
 /// # Errors
 ///
