@@ -7,9 +7,9 @@ abbrev pub is_atom : Tree → Bool
 is_atom (atom s) = true
 is_atom t = false
 
-abbrev pub is_integer_term : Tree → Bool
-is_integer_term (int n) = true
-is_integer_term t = false
+abbrev pub is_int : Tree → Bool
+is_int (int n) = true
+is_int t = false
 
 abbrev pub is_list : Tree → Bool
 is_list (list ts) = true
@@ -17,7 +17,7 @@ is_list t = false
 
 -- {Module,Function,Arity,ExtraInfo}, or with the arguments in the place of the arity; the information is a list
 abbrev pub is_stack_entry : Tree → Bool
-is_stack_entry (tuple (more m (more f (more a (more l none))))) = is_atom m && (is_atom f && ((is_integer_term a || is_list a) && is_list l))
+is_stack_entry (tuple (more m (more f (more a (more l none))))) = is_atom m && (is_atom f && ((is_int a || is_list a) && is_list l))
 is_stack_entry t = false
 
 -- each is one

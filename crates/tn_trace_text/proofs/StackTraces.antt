@@ -1,7 +1,7 @@
 -- Terms without their stack traces.
 use Rattle.std.proofs.Common.{◌≡◌, ◌≢◌, ◌∙◌, ℕ, ◌+◌, ◌<◌, ◌==◌, Bool, true, false, ◌&&◌, ◌||◌, List, [], ◌∷◌, length, get_or, drop, map, refl, ap, sym, rules, arith}
 use Rattle.def_term.specs.Tree.{Tree, tuple, list, Trees, none, more, of_elements}
-use Rattle.def_trace_text.specs.StackTraces.{is_atom, is_integer_term, is_list, is_stack_entry, are_stack_entries, is_stack, without_stacks, each_without_stacks}
+use Rattle.def_trace_text.specs.StackTraces.{is_atom, is_int, is_list, is_stack_entry, are_stack_entries, is_stack, without_stacks, each_without_stacks}
 use Rattle.tn_term.specs.declared.term.Term.{Term}
 use Rattle.tn_term.specs.Views.{tree_of, trees_of}
 use Rattle.tn_term.proofs.Trees.{here, past}
@@ -17,7 +17,7 @@ not_four (a ∷ b ∷ c ∷ d ∷ []) h = absurd (h refl)
 not_four (a ∷ b ∷ c ∷ d ∷ e ∷ ts) h = refl
 
 abbrev is_entry : (m f a l : Tree) → Bool
-is_entry m f a l = is_atom m && (is_atom f && ((is_integer_term a || is_list a) && is_list l))
+is_entry m f a l = is_atom m && (is_atom f && ((is_int a || is_list a) && is_list l))
 
 pub of_four :
     {A : Type 0} (ts : List (Term A)) (x y z w : Term A) → length ts ≡ 4 → x ≡ get_or ts 0 x → y ≡ get_or ts 1 y → z ≡ get_or ts 2 z → w ≡ get_or ts 3 w

@@ -1,7 +1,7 @@
 // Terms without their stack traces.
 ghost use Rattle.std.specs.Prelude.{◌≡◌, ◌&&◌, ◌||◌, IfOk, map};
 ghost use Rattle.def_term.specs.Tree.{tuple};
-ghost use Rattle.def_trace_text.specs.StackTraces.{is_atom, is_integer_term, is_list, is_stack_entry, are_stack_entries};
+ghost use Rattle.def_trace_text.specs.StackTraces.{is_atom, is_int, is_list, is_stack_entry, are_stack_entries};
 ghost use Rattle.def_trace_text.specs.StackTraces.{is_stack, without_stacks};
 ghost use Rattle.tn_term.specs.Views.{tree_of, trees_of};
 
@@ -17,7 +17,7 @@ fn is_atom<A: Allocator>(term: &Term<A>) -> bool
 
 /// Whether a term may be an arity or arguments.
 fn is_arity<A: Allocator>(term: &Term<A>) -> bool
-    ensures { result ≡ is_integer_term (tree_of term.now) || is_list (tree_of term.now) }
+    ensures { result ≡ is_int (tree_of term.now) || is_list (tree_of term.now) }
 {
     matches!(term, Term::Int(_) | Term::List(_))
 }
@@ -37,7 +37,7 @@ fn is_entry<A: Allocator>(
     information: &Term<A>,
 ) -> bool
     ensures { result ≡ is_atom (tree_of module.now) && (is_atom (tree_of function.now)
-        && ((is_integer_term (tree_of arity.now) || is_list (tree_of arity.now)) && is_list (tree_of information.now))) }
+        && ((is_int (tree_of arity.now) || is_list (tree_of arity.now)) && is_list (tree_of information.now))) }
 {
     is_atom(module) && (is_atom(function) && (is_arity(arity) && is_list(information)))
 }
