@@ -1,0 +1,5 @@
+pub mod NumberAtoms
+pub mod CallNames
+pub mod PrintedTerms
+pub mod PrintedHeads
+pub mod PrintedFuns
