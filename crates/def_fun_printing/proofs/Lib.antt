@@ -3,3 +3,8 @@ pub mod CallNames
 pub mod PrintedTerms
 pub mod PrintedHeads
 pub mod PrintedFuns
+pub mod OperatorBounds
+pub mod ExprReads
+pub mod FunReads
+pub mod LawRows
+pub mod TextTokens
