@@ -8,3 +8,6 @@ pub mod ExprReads
 pub mod FunReads
 pub mod LawRows
 pub mod TextTokens
+pub mod Offsets
+pub mod ExprTexts
+pub mod ExprsBack

@@ -1,5 +1,5 @@
 -- The tokens of printed texts, one after the other.
-use Rattle.std.proofs.Common.{◌≡◌, ◌⊎◌, ℕ, ◌+◌, ◌<◌, ◌≤◌, ◌^◌, ◌==◌, nat_le, List, [], ◌∷◌, ◌++◌, length, drop, Bool, true, false, not, ◌&&◌, ◌||◌, cond, Option, Some, None, codes, decimal, refl, ap, ap₂, sym, ◌∙◌, subst, arith, append_assoc, append-nil, length-append, inl, inr}
+use Rattle.std.proofs.Common.{◌≡◌, ◌⊎◌, ℕ, suc, ◌+◌, ◌<◌, ◌≤◌, ◌^◌, ◌==◌, nat_le, List, [], ◌∷◌, ◌++◌, length, drop, Bool, true, false, not, ◌&&◌, ◌||◌, cond, Option, Some, None, codes, decimal, refl, ap, ap₂, sym, ◌∙◌, subst, arith, append_assoc, append-nil, length-append, inl, inr}
 use Rattle.std.specs.Prelude.{flat_map}
 use Rattle.std.specs.Option.{unwrap_or}
 use Rattle.std.specs.Str.{bytes_eq}
@@ -55,11 +55,14 @@ one_span at to u rest t ys h e later =
     let gap = h.gap in
     (u, rest, record { split = ap (λ n. drop n (u ++ rest)) gap; from = omega (arith, gap); to = e; stands = inl h.is }, later)
 
+gap_more : (c : ℕ) (bytes : List ℕ) → (c == 37) ≡ false → is_blank c ≡ true → gap_len false (c ∷ bytes) ≡ suc (gap_len false bytes)
+gap_more c bytes other blank = cond-false (c == 37) _ _ other ∙ cond-true (is_blank c) (gap_len false bytes + 1) 0 blank ∙ (let e : gap_len false bytes + 1 ≡ suc (gap_len false bytes) = omega arith in e)
+
 -- a blank before
 pub blank_before : (c at : ℕ) (bytes : List ℕ) (xs : List FunSpan) → (c == 37) ≡ false → is_blank c ≡ true → SpansFrom FunToken FunStands (at + 1) bytes xs → SpansFrom FunToken FunStands at (c ∷ bytes) xs
-blank_before c at bytes [] other blank h = ap (λ n. drop n (c ∷ bytes)) (cond-false (c == 37) _ _ other ∙ cond-true (is_blank c) _ _ blank) ∙ h
+blank_before c at bytes [] other blank h = ap (λ n. drop n (c ∷ bytes)) (gap_more c bytes other blank) ∙ h
 blank_before c at bytes (x ∷ xs) other blank h =
-    let gap = cond-false (c == 37) _ _ other ∙ cond-true (is_blank c) (gap_len false bytes + 1) 0 blank in
+    let gap = gap_more c bytes other blank in
     let n = h.2 in
     let from = n.from in
     (h.0, h.1, record { split = ap (λ k. drop k (c ∷ bytes)) gap ∙ n.split; from = omega (arith, gap, from); to = n.to; stands = n.stands }, h.3)
