@@ -35,6 +35,7 @@ use Rattle.def_fun.proofs.NumberedNames.{same_name}
 use Rattle.def_fun.proofs.OpenParts.{lower_level, level_bounds}
 use Rattle.def_fun_printing.proofs.NumberAtoms.{number_digits, number_kind, dollar_back}
 use Rattle.def_fun_printing.proofs.CallNames.{plain_call}
+use Rattle.def_fun_printing.proofs.Offsets.{unplaced, unplaced_each}
 use Rattle.def_fun_printing.proofs.ExprTexts.{HasText, HaveText}
 
 -- ---- results
@@ -234,6 +235,7 @@ module _ (d : Dialect) (part : Position) (ns : ClauseNames) where
   -- an expression that is translated to the term, with that constant; it may stand where its level says
   pub record IsBack (t : Tree) (e : FunExpr) (c : Option Tree) : Type 0 where
     pub text : HasText e
+    pub bare : unplaced e ≡ e
     pub level : has_level (expr_level e) e ≡ true
     pub least : 1 ≤ expr_level e
     pub sized : is_sized e ≡ true
@@ -248,6 +250,7 @@ module _ (d : Dialect) (part : Position) (ns : ClauseNames) where
   -- what follows for all of them
   pub record RowBack (ts : Trees) (fs : FunExprs) (cs : List (Option Tree)) : Type 0 where
     pub text : HaveText fs
+    pub bare : unplaced_each fs ≡ fs
     pub levels : have_levels fs ≡ true
     pub sized : are_sized fs ≡ true
     pub deep : greatest_nesting fs ≤ greatest_depth ts + greatest_depth ts + 1
@@ -259,7 +262,7 @@ module _ (d : Dialect) (part : Position) (ns : ClauseNames) where
 
   pub row_back : (ts : Trees) (fs : FunExprs) (cs : List (Option Tree)) → AreBack ts fs cs → RowBack ts fs cs
   row_back term.none fs cs h =
-      subst (λ es. RowBack term.none es cs) (sym h.0) (subst (λ ks. RowBack term.none tree.none ks) (sym h.1) (record { text = tt; levels = refl; sized = refl; deep = omega arith; counted = refl; all = []; back = refl; terms = refl; constants = refl }))
+      subst (λ es. RowBack term.none es cs) (sym h.0) (subst (λ ks. RowBack term.none tree.none ks) (sym h.1) (record { text = tt; bare = refl; levels = refl; sized = refl; deep = omega arith; counted = refl; all = []; back = refl; terms = refl; constants = refl }))
   row_back (term.more t ts) fs cs h =
       let e = h.0 in
       let es = h.1 in
@@ -273,6 +276,7 @@ module _ (d : Dialect) (part : Position) (ns : ClauseNames) where
       (subst (λ ks. RowBack (term.more t ts) (tree.more e es) ks) (sym h.5)
       (record {
         text = (p.text, r.text);
+        bare = ap₂ tree.more p.bare r.bare;
         levels = and_from (has_level 1 e) (have_levels es) first r.levels;
         sized = and_from (is_sized e) (are_sized es) p.sized r.sized;
         deep = omega (arith, deep, more_deep);
@@ -288,11 +292,12 @@ module _ (d : Dialect) (part : Position) (ns : ClauseNames) where
   int_back : (z : ℤ) → in_range z ≡ true → IsBack (term.int z) (integer_expr (term.int z)) (Some (term.int z))
   int_back (pos n) h =
       let small = ltb-true n 9223372036854775808 h in
-      record { text = omega (arith, small); level = refl; least = omega arith; sized = le-leb n GREATEST_INTEGER (omega (arith, small)); deep = omega arith; back = refl }
+      record { text = omega (arith, small); bare = refl; level = refl; least = omega arith; sized = le-leb n GREATEST_INTEGER (omega (arith, small)); deep = omega arith; back = refl }
   int_back (negsuc n) h =
       let small = ltb-true n 9223372036854775808 h in
       record {
         text = omega (arith, small);
+        bare = refl;
         level = refl;
         least = omega arith;
         sized = le-leb (suc n) (GREATEST_INTEGER + 1) (omega (arith, small));
@@ -303,6 +308,7 @@ module _ (d : Dialect) (part : Position) (ns : ClauseNames) where
   number_back : (k : ℕ) → k ≤ 999 → variable_kind ns (codes "X" ++ decimal k) ≡ of_number k → IsBack (term.atom (dollar_name k)) (numbered_variable k) None
   number_back k h kind = record {
     text = number_name k h;
+    bare = refl;
     level = refl;
     least = omega arith;
     sized = number_sized k h;
@@ -313,24 +319,24 @@ module _ (d : Dialect) (part : Position) (ns : ClauseNames) where
   }
 
   any_back : variable_kind ns ANY ≡ anything_there → IsBack (word "_") (tree.variable 0 ANY) None
-  any_back kind = record { text = refl; level = refl; least = omega arith; sized = refl; deep = omega arith; back = ap (λ v. then_fun (variable_term ANY 0 v) (λ t. Ok (no_constant t))) kind }
+  any_back kind = record { text = refl; bare = refl; level = refl; least = omega arith; sized = refl; deep = omega arith; back = ap (λ v. then_fun (variable_term ANY 0 v) (λ t. Ok (no_constant t))) kind }
 
   object_back : IsBack (word "$_") (tree.call 0 (codes "object") tree.none) None
-  object_back = record { text = (refl, tt); level = refl; least = omega arith; sized = refl; deep = omega arith; back = refl }
+  object_back = record { text = (refl, tt); bare = refl; level = refl; least = omega arith; sized = refl; deep = omega arith; back = refl }
 
   bindings_back : IsBack (word "$*") (tree.call 0 (codes "bindings") tree.none) None
-  bindings_back = record { text = (refl, tt); level = refl; least = omega arith; sized = refl; deep = omega arith; back = refl }
+  bindings_back = record { text = (refl, tt); bare = refl; level = refl; least = omega arith; sized = refl; deep = omega arith; back = refl }
 
   atom_back : (s : Name) → all_are is_printable s ≡ true → nat_le (length s) 255 ≡ true → begins_with_dollar s ≡ false → IsBack (term.atom s) (tree.atom 0 s) (Some (term.atom s))
-  atom_back s h size plain = record { text = h; level = refl; least = omega arith; sized = size; deep = omega arith; back = ap (λ t. Ok (constant_as t (term.atom s))) (cond-false (begins_with_dollar s) _ _ plain) }
+  atom_back s h size plain = record { text = h; bare = refl; level = refl; least = omega arith; sized = size; deep = omega arith; back = ap (λ t. Ok (constant_as t (term.atom s))) (cond-false (begins_with_dollar s) _ _ plain) }
 
   const_back : (s : Name) → all_are is_printable s ≡ true → nat_le (length s) 255 ≡ true → begins_with_dollar s ≡ true → IsBack (const_of (term.atom s)) (tree.atom 0 s) (Some (term.atom s))
-  const_back s h size dollar = record { text = h; level = refl; least = omega arith; sized = size; deep = omega arith; back = ap (λ t. Ok (constant_as t (term.atom s))) (cond-true (begins_with_dollar s) _ _ dollar) }
+  const_back s h size dollar = record { text = h; bare = refl; level = refl; least = omega arith; sized = size; deep = omega arith; back = ap (λ t. Ok (constant_as t (term.atom s))) (cond-true (begins_with_dollar s) _ _ dollar) }
 
   string_back : (ts : Trees) → is_text ts ≡ true → nat_le (count ts) LIST_LENGTH ≡ true → IsBack (term.list ts) (string_expr ts) None
   string_back ts h size =
       let s = text_back ts h size in
-      record { text = (s.printable, refl); level = refl; least = omega arith; sized = s.sized; deep = omega arith; back = ap (λ us. Ok (no_constant (term.list us))) s.codes_are }
+      record { text = (s.printable, refl); bare = refl; level = refl; least = omega arith; sized = s.sized; deep = omega arith; back = ap (λ us. Ok (no_constant (term.list us))) s.codes_are }
 
   -- ---- lists, tuples and calls
 
@@ -339,6 +345,7 @@ module _ (d : Dialect) (part : Position) (ns : ClauseNames) where
       let deep = r.deep in
       record {
         text = r.text;
+        bare = ap (tree.list 0) r.bare;
         level = r.levels;
         least = omega arith;
         sized = and_from (nat_le (length (each_expr fs)) LIST_LENGTH) (are_sized fs) (ap (λ n. nat_le n LIST_LENGTH) r.counted ∙ size) r.sized;
@@ -360,6 +367,7 @@ module _ (d : Dialect) (part : Position) (ns : ClauseNames) where
       let counted : length (vs ++ []) ≡ count us = ap length (append-nil vs) ∙ (elements_counted vs ∙ ap count r.terms) in
       record {
         text = (r.text, tt);
+        bare = ap (λ gs. tree.list_onto 0 gs (tree.strings 0 [] [])) r.bare;
         level = and_from (has_one fs) (have_levels fs && true) refl (and_from (have_levels fs) true r.levels refl);
         least = omega arith;
         sized = and_from (nat_le (length (each_expr fs)) LIST_LENGTH) (are_sized fs && true) (ap (λ n. nat_le n LIST_LENGTH) r.counted ∙ size) (and_from (are_sized fs) true r.sized refl);
@@ -375,6 +383,7 @@ module _ (d : Dialect) (part : Position) (ns : ClauseNames) where
       let deep = r.deep in
       record {
         text = r.text;
+        bare = ap (tree.tuple 0) r.bare;
         level = r.levels;
         least = omega arith;
         sized = and_from (nat_le (length (each_expr fs)) 255) (are_sized fs) (ap (λ n. nat_le n 255) r.counted ∙ size) r.sized;
@@ -397,6 +406,7 @@ module _ (d : Dialect) (part : Position) (ns : ClauseNames) where
           ∙ cond-true (may_call d part s (count ts)) _ _ may in
       record {
         text = (h, r.text);
+        bare = ap (tree.call 0 s) r.bare;
         level = r.levels;
         least = omega arith;
         sized = and_from (nat_le (length s) 255) (are_sized fs) size r.sized;
@@ -412,6 +422,7 @@ module _ (d : Dialect) (part : Position) (ns : ClauseNames) where
   -- an operand, in parentheses where it binds less
   record IsIn (n : ℕ) (t : Tree) (f : FunExpr) (c : Option Tree) : Type 0 where
     pub text : HasText f
+    pub bare : unplaced f ≡ f
     pub level : has_level n f ≡ true
     pub sized : is_sized f ≡ true
     pub deep : nesting_depth f ≤ depth t + depth t + 2
@@ -421,8 +432,8 @@ module _ (d : Dialect) (part : Position) (ns : ClauseNames) where
   operand_back n t e c p =
       let deep = p.deep in
       cond_both (nat_le n (expr_level e)) e (tree.in_parens 0 e) (λ f. IsIn n t f c)
-      (λ h. record { text = p.text; level = level_at n (expr_level e) e h p.level; sized = p.sized; deep = omega (arith, deep); back = p.back })
-      (λ h. record { text = p.text; level = lower_level 1 (expr_level e) e p.least p.level; sized = p.sized; deep = omega (arith, deep); back = p.back })
+      (λ h. record { text = p.text; bare = p.bare; level = level_at n (expr_level e) e h p.level; sized = p.sized; deep = omega (arith, deep); back = p.back })
+      (λ h. record { text = p.text; bare = ap (tree.in_parens 0) p.bare; level = lower_level 1 (expr_level e) e p.least p.level; sized = p.sized; deep = omega (arith, deep); back = p.back })
 
   between_back : (o : FunOperator) (t u : Tree) (e f : FunExpr) (c k : Option Tree) → is_infix o ≡ true → IsBack t e c → IsBack u f k → computed_if_two o c k ≡ not_computed
       → IsBack (name_tuple (operator_name o) (t ∷ u ∷ [])) (tree.between 0 o (in_level (left_level (operator_binding o)) e) (in_level (right_level (operator_binding o)) f)) None
@@ -436,6 +447,7 @@ module _ (d : Dialect) (part : Position) (ns : ClauseNames) where
       let more_deep = r.deep in
       record {
         text = (l.text, r.text);
+        bare = ap₂ (tree.between 0 o) l.bare r.bare;
         level = and_from (is_infix o) _ two (and_from (nat_le n n) _ (le-leb n n (omega arith)) (and_from (has_level (left_level (operator_binding o)) left) _ l.level r.level));
         least = (level_bounds o).level;
         sized = and_from (is_sized left) (is_sized right) l.sized r.sized;
@@ -452,6 +464,7 @@ module _ (d : Dialect) (part : Position) (ns : ClauseNames) where
       let deep = p.deep in
       record {
         text = text p.text;
+        bare = ap (tree.before 0 o) p.bare;
         level = and_from (is_prefix o) _ one (and_from (nat_le PREFIX_LEVEL PREFIX_LEVEL) _ refl p.level);
         least = omega arith;
         sized = size ∙ p.sized;
@@ -662,7 +675,7 @@ module _ (d : Dialect) (part : Position) (ns : ClauseNames) where
 
   -- the list of an operand is kept by ""
   list_kept : (ts : Trees) (es : FunExprs) (cs : List (Option Tree)) → nat_le (count ts) LIST_LENGTH ≡ true → AreBack ts es cs → (f : FunExpr) × (with_string (tree.list 0 es) ≡ Some f) × IsBack (term.list ts) f None
-  list_kept term.none es cs size h = (tree.strings 0 [] [], ap (λ x. with_string (tree.list 0 x)) h.0, record { text = (refl, refl); level = refl; least = omega arith; sized = refl; deep = omega arith; back = refl })
+  list_kept term.none es cs size h = (tree.strings 0 [] [], ap (λ x. with_string (tree.list 0 x)) h.0, record { text = (refl, refl); bare = refl; level = refl; least = omega arith; sized = refl; deep = omega arith; back = refl })
   list_kept (term.more t ts) es cs size h =
       let fs = tree.more h.0 h.1 in
       (tree.list_onto 0 fs (tree.strings 0 [] []), ap (λ x. with_string (tree.list 0 x)) h.4, tail_back t ts h.0 h.1 cs size (subst (λ x. RowBack (term.more t ts) x cs) h.4 (row_back (term.more t ts) es cs h)))
