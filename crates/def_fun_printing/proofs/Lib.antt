@@ -11,3 +11,4 @@ pub mod TextTokens
 pub mod Offsets
 pub mod ExprTexts
 pub mod ExprsBack
+pub mod HeadsBack
