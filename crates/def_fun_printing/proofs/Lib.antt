@@ -12,3 +12,6 @@ pub mod Offsets
 pub mod ExprTexts
 pub mod ExprsBack
 pub mod HeadsBack
+pub mod RowsBack
+pub mod ClausesBack
+pub mod FunsBack
