@@ -295,7 +295,14 @@ fun_clauses_short d (k ∷ ks) ts us short h =
     let a = then_ok (with_alternatives d k ts (alternatives_of k.guards)) (λ vs. with_fun_clauses d vs ks) us h in
     fun_clauses_short d ks a.0 us (alternatives_short d k (alternatives_of k.guards) ts a.0 short a.1) a.2
 
-pub fun_is_short : (d : Dialect) (ks : List FunClause) (t : Tree) → tree_of_fun d ks ≡ Ok t → length (w t) ≤ LENGTH
+fun_is_short : (d : Dialect) (ks : List FunClause) (t : Tree) → tree_of_fun d ks ≡ Ok t → length (w t) ≤ LENGTH
 fun_is_short d ks t h =
     let a = then_ok (with_fun_clauses d [] ks) (λ ts. Ok (list_term ts)) t h in
     subst (λ u. length (w u) ≤ LENGTH) (same_tree (list_term a.0) t a.2) (fun_clauses_short d ks [] a.0 (omega arith) a.1)
+
+long_by : (b : Bool) (r : OrRefusal (List FunClause)) (ks : List FunClause) → cond b r (Err too_long) ≡ Ok ks → b ≡ true
+long_by true r ks h = refl
+long_by false r ks h = absurd (cc)
+
+pub texts_are_short : (d : Dialect) (bytes : List ℕ) (t : Tree) → spec_of_text d bytes ≡ Ok t → (length bytes ≤ LENGTH) × (length (w t) ≤ LENGTH)
+texts_are_short d bytes t h = let a = then_ok (fun_of_text bytes) (λ ks. tree_of_fun d ks) t h in (leb-true (length bytes) LENGTH (long_by (nat_le (length bytes) LENGTH) _ a.0 a.1), fun_is_short d a.0 t a.2)

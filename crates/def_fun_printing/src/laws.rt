@@ -1,15 +1,23 @@
 // The laws of funs that are read, and of printed funs.
-ghost use Rattle.def_fun_printing.specs.Laws.{DerivedFunIsRead, DerivedFunIsOne, FunIsPrinted, TextIsPrinted};
+ghost use Rattle.def_fun_printing.specs.Laws.{DerivedFunIsRead, DerivedFunIsOne};
+ghost use Rattle.def_fun_printing.specs.Laws.{FunIsPrinted, TextIsPrinted, PrintedIsAFun, TextsAreShort};
 
-/// A fun that tokens spell within the limits is read, and they spell one at most, where each list with a tail in
-/// a head has an element before it.
+/// A fun that tokens spell within the limits is read, and they spell one at most, where each list with a tail in a
+/// head has an element before it.
 pub fn a_fun_that_is_spelled_is_read()
     ensures read { DerivedFunIsRead }
     ensures one { DerivedFunIsOne }
 {}
 
-/// The specification that a fun is translated to is printed, for the same dialect; so is that of a text.
+/// The specification of a fun is printed for the dialect of its translation, and so is that of a text.
 pub fn the_specification_of_a_fun_is_printed()
     ensures funs { FunIsPrinted }
     ensures texts { TextIsPrinted }
+{}
+
+/// The text that a specification within the limits is printed as has that specification, where neither its own text
+/// nor that of the fun is too long; and each text that has a specification is so.
+pub fn a_printed_fun_has_its_specification()
+    ensures printed { PrintedIsAFun }
+    ensures short { TextsAreShort }
 {}
