@@ -1,8 +1,8 @@
 -- The names that a fun calls, and those of operators.
-use Rattle.std.proofs.Common.{◌≡◌, ℕ, ◌+◌, ◌==◌, nat_le, List, [], ◌∷◌, Bool, true, false, not, ◌&&◌, ◌||◌, cond, Option, Some, None, Result, Ok, Err, codes, refl, ap, sym, ◌∙◌, subst, ◌⊎◌, inl, inr}
+use Rattle.std.proofs.Common.{◌≡◌, ℕ, ◌==◌, nat_le, List, [], ◌∷◌, Bool, true, false, not, ◌&&◌, cond, Option, Some, None, Ok, Err, codes, refl, ap, ◌∙◌, subst, inl, inr}
 use Rattle.std.specs.Str.{bytes_eq}
 use Rattle.std.specs.Option.{is_some}
-use Rattle.std.proofs.lemmas.Bool.{and_parts, and_from, or_cases, not-true}
+use Rattle.std.proofs.lemmas.Bool.{and_parts, or_cases, not-true}
 use Rattle.def_term.specs.Names.{Name}
 use Rattle.def_term.specs.Text.{is_among}
 use Rattle.def_spec.specs.Expressions.{Dialect, Position, in_condition, in_body}
@@ -11,7 +11,7 @@ use Rattle.def_fun.specs.Operators as op
 use Rattle.def_fun.specs.Operators.{FunOperator, operator_name, is_infix}
 use Rattle.def_fun.specs.Refusals.{FunRefusal, unsupported, no_function, OrRefusal}
 use Rattle.def_fun.specs.Calls.{FunFunction, fun_functions, FunAction, fun_actions, is_function_of, is_action_of, may_call, is_object, is_bindings, FunCall, the_object, the_bindings, a_call, named_fun_call}
-use Rattle.def_fun.specs.FunTexts.{infix_operators, prefix_operators, operator_named, PrintedCall, prints_between, prints_before, prints_call, prints_nothing, or_call, between_or, before_or, printed_call}
+use Rattle.def_fun.specs.FunTexts.{infix_operators, prefix_operators, operator_named, PrintedCall, prints_between, prints_call, prints_nothing, or_call, between_or, before_or, printed_call}
 use Rattle.def_fun.proofs.NumberedNames.{same_name}
 
 -- a name that is no operator, no name that is left out, and neither `const`, `object` nor `bindings`

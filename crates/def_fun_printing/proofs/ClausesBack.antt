@@ -1,14 +1,12 @@
 -- The text of a clause spells a clause that is translated to the term.
-use Rattle.std.proofs.Common.{◌≡◌, ℕ, ◌+◌, ◌<◌, ◌≤◌, max, nat_le, List, [], ◌∷◌, ◌++◌, length, Bool, true, false, ◌&&◌, cond, Option, Some, None, Result, Ok, Err, codes, refl, ap, ap₂, sym, ◌∙◌, subst, arith, append_assoc, append-nil, length-append}
-use Rattle.std.proofs.lemmas.Bool.{and_parts, and_from, cond-true, le-leb, leb-true}
+use Rattle.std.proofs.Common.{◌≡◌, ℕ, ◌+◌, ◌≤◌, max, nat_le, List, [], ◌∷◌, ◌++◌, length, true, false, ◌&&◌, None, Result, Ok, Err, codes, refl, ap, ap₂, sym, ◌∙◌, subst, arith, append_assoc, length-append}
+use Rattle.std.proofs.lemmas.Bool.{and_parts, and_from, cond-true, le-leb}
 use Rattle.def_term.specs.Tree.{Tree, Trees, none, more, count, elements, of_elements, triple, depth, greatest_depth}
 use Rattle.def_term.specs.Tree as term
-use Rattle.def_term.specs.Names.{Name}
 use Rattle.def_text.specs.Limits.{LIST_LENGTH, sizes_fit, all_sizes_fit}
 use Rattle.def_text.specs.Writable.{is_writable, are_writable}
 use Rattle.def_text.proofs.Complete.{elements-of}
-use Rattle.def_spec.specs.Expressions.{Dialect, Position, in_condition, in_body, Exprs}
-use Rattle.def_spec.specs.Matching.{Pattern}
+use Rattle.def_spec.specs.Expressions.{Dialect, in_condition, in_body}
 use Rattle.def_spec.specs.Outcome.{Clause}
 use Rattle.def_spec.specs.Reading.{SpecFault, badarg, Reads, then_read, head_of, exprs_of, clause_of_parts, clause_of}
 use Rattle.def_fun.specs.Trees as tree
@@ -16,18 +14,18 @@ use Rattle.def_fun.specs.Trees.{FunExpr, FunExprs, each_expr, first_byte, nestin
 use Rattle.def_fun.specs.Tokens as token
 use Rattle.def_fun.specs.Tokens.{FunToken, FunStands, FunSpan}
 use Rattle.def_fun.specs.Scan.{fun_span}
-use Rattle.def_fun.specs.Grammar.{Piece, at_offset, anywhere, ArePieces, expr_pieces, pieces_of, has_one, has_level, is_fun_head, comma_pieces, guard_pieces, when_pieces, clause_pieces, are_exprs, are_guards, is_fun_clause}
+use Rattle.def_fun.specs.Grammar.{anywhere, ArePieces, expr_pieces, pieces_of, has_one, has_level, is_fun_head, comma_pieces, when_pieces, clause_pieces, are_exprs, are_guards, is_fun_clause}
 use Rattle.def_fun.specs.Limits.{FUN_DEPTH, is_sized, is_sized_row, are_sized_guards, is_sized_clause, clause_count, head_nesting, row_nesting, guards_nesting}
-use Rattle.def_fun.specs.Refusals.{too_deep_at, OrRefusal, then_fun}
-use Rattle.def_fun.specs.Variables.{ClauseNames, ANY, names_of, variables_in, with_names, anything_there, variable_kind}
+use Rattle.def_fun.specs.Refusals.{too_deep_at, then_fun}
+use Rattle.def_fun.specs.Variables.{names_of, variables_in, with_names}
 use Rattle.def_fun.specs.Translation.{HEAD_DEPTH, PART_DEPTH, within_depth, pattern_term, head_term, part_terms, list_term, alternative_term, alternatives_of}
-use Rattle.def_fun.specs.FunTexts.{OrReason, then_print, expr_of_term, NoFun, ClausePart, the_head, the_condition, the_expression, PrintedPattern, head_of_term, exprs_of_terms, reason_at, then_clause, joined_with, expr_text, expr_texts, parts_printed, when_text, body_printed, clause_of_parts_printed, clause_printed}
+use Rattle.def_fun.specs.FunTexts.{OrReason, then_print, expr_of_term, NoFun, the_head, the_condition, the_expression, PrintedPattern, head_of_term, exprs_of_terms, reason_at, then_clause, joined_with, expr_text, expr_texts, parts_printed, when_text, body_printed, clause_of_parts_printed, clause_printed}
 use Rattle.def_fun_printing.specs.HeadLevels.{is_level_head}
 use Rattle.def_fun_printing.proofs.Offsets.{unplaced, unplaced_each, level_same, nesting_same, sized_same, pattern_same, patterns_same, variables_same, pattern_alike}
 use Rattle.def_fun_printing.proofs.TextTokens.{Follows, follows_by, one_span, blank_before, open_paren_front, close_paren_front, arrow_front, when_front}
-use Rattle.def_fun_printing.proofs.ExprTexts.{HasText, HaveText, texts_of, joined_texts, pieces_joined, Spans, IsWritten, written, AreWritten, all_written}
-use Rattle.def_fun_printing.proofs.ExprsBack.{RowBack, row_back, RowOf, rows_of}
-use Rattle.def_fun_printing.proofs.HeadsBack.{names_to, names_up_to, IsHeadBack, head_back}
+use Rattle.def_fun_printing.proofs.ExprTexts.{HasText, HaveText, texts_of, joined_texts, pieces_joined, Spans, written, all_written}
+use Rattle.def_fun_printing.proofs.ExprsBack.{row_back, rows_of}
+use Rattle.def_fun_printing.proofs.HeadsBack.{names_to, names_up_to, head_back}
 use Rattle.def_fun_printing.proofs.RowsBack.{clause_ok, reason_ok, parts_ok, row_pieces, IsFineRow, fine_row, row_terms}
 
 -- the conditions as guards: one, or none where there are no conditions

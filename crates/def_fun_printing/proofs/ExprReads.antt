@@ -1,6 +1,6 @@
 -- An expression is read where its tokens are.
-use Rattle.std.proofs.Common.{◌≡◌, ◌⊎◌, ℕ, ◌+◌, ◌<◌, ◌≤◌, max, nat_le, nat_lt, List, [], ◌∷◌, ◌++◌, map, length, Bool, true, false, not, ◌&&◌, ◌||◌, cond, Option, Some, None, Result, Ok, Err, refl, ap, ap₂, sym, ◌∙◌, subst, arith, append_assoc, append-nil, length-append, inl, inr}
-use Rattle.std.proofs.lemmas.Bool.{and_parts, and_from, cond-true, cond-false, le-leb, lt-ltb, leb-true, leb-false, false_from_ne_true}
+use Rattle.std.proofs.Common.{◌≡◌, ◌⊎◌, ℕ, ◌+◌, ◌<◌, ◌≤◌, max, nat_le, nat_lt, List, [], ◌∷◌, ◌++◌, map, length, Bool, true, false, not, ◌&&◌, None, Result, Ok, refl, ap, ap₂, sym, ◌∙◌, subst, arith, append_assoc, append-nil, length-append, inl, inr}
+use Rattle.std.proofs.lemmas.Bool.{and_parts, and_from, cond-true, cond-false, le-leb, lt-ltb, leb-true, false_from_ne_true}
 use Rattle.def_term.specs.Names.{Name}
 use Rattle.def_term.specs.Atoms.{ATOM_LENGTH}
 use Rattle.def_text.specs.Limits.{TUPLE_LENGTH, LIST_LENGTH}
@@ -12,7 +12,7 @@ use Rattle.def_fun.specs.Tokens.{FunToken, FunSpan}
 use Rattle.def_fun.specs.Trees.{FunExpr, variable, whole, atom, strings, in_parens, call, list, list_onto, tuple, before, between, FunExprs, none, more, each_expr, of_exprs, nesting_depth, greatest_nesting, joined_codes, is_pattern, are_patterns}
 use Rattle.def_fun.specs.Grammar.{Piece, at_offset, anywhere, IsPiece, ArePieces, string_piece, expr_pieces, pieces_of, pieces_after, has_one, has_level, have_levels}
 use Rattle.def_fun.specs.Limits.{GREATEST_INTEGER, is_sized, are_sized}
-use Rattle.def_fun.specs.Reading.{OpenPart, in_open_parens, in_open_call, in_open_list, in_open_tail, in_open_tuple, after_left, after_prefix, ExprState, wants, has, gather, may_follow, may_stand, greatest_there, has_level_left, if_placed, operand_at, operator_after, string_after, arguments_after, close_after, comma_after, bar_after, on_operand, after_operand, fun_expr_step, if_none_open, ended_expr}
+use Rattle.def_fun.specs.Reading.{OpenPart, in_open_parens, in_open_call, in_open_list, in_open_tail, in_open_tuple, after_left, after_prefix, ExprState, wants, has, gather, may_follow, may_stand, greatest_there, has_level_left, if_placed, operand_at, operator_after, close_after, comma_after, bar_after, on_operand, after_operand, fun_expr_step, if_none_open, ended_expr}
 use Rattle.def_fun.proofs.OpenParts.{Admits}
 use Rattle.def_fun_printing.proofs.OperatorBounds.{bounds, apart}
 

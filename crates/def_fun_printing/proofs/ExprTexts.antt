@@ -1,6 +1,5 @@
 -- The tokens of the text of an expression spell it, with the offsets that they have there.
-use Rattle.std.proofs.Common.{◌≡◌, ℕ, ◌+◌, ◌<◌, ◌≤◌, ◌^◌, List, [], ◌∷◌, ◌++◌, map, length, true, codes, decimal, refl, ap, ap₂, sym, ◌∙◌, subst, arith, append_assoc, append-nil, length-append}
-use Rattle.def_term.specs.Names.{Name}
+use Rattle.std.proofs.Common.{◌≡◌, ℕ, ◌+◌, ◌<◌, ◌^◌, List, [], ◌∷◌, ◌++◌, length, true, codes, decimal, refl, ap, ap₂, sym, ◌∙◌, subst, arith, append_assoc, append-nil, length-append}
 use Rattle.def_term.specs.Text.{atom_text}
 use Rattle.def_text.specs.Tokens.{all_are, is_printable}
 use Rattle.def_fun.specs.Operators as op
@@ -10,8 +9,8 @@ use Rattle.def_fun.specs.Tokens as token
 use Rattle.def_fun.specs.Tokens.{FunToken, is_variable_name, FunStands, FunSpan}
 use Rattle.def_fun.specs.Scan.{fun_span}
 use Rattle.def_fun.specs.Trees.{FunExpr, variable, whole, atom, strings, in_parens, call, list, list_onto, tuple, before, between, FunExprs, none, more}
-use Rattle.def_fun.specs.Grammar.{Piece, at_offset, anywhere, IsPiece, ArePieces, string_piece, expr_pieces, pieces_of, pieces_after}
-use Rattle.def_fun.specs.FunTexts.{joined_with, string_text, prefix_text, expr_text, expr_texts}
+use Rattle.def_fun.specs.Grammar.{Piece, at_offset, anywhere, ArePieces, expr_pieces, pieces_of, pieces_after}
+use Rattle.def_fun.specs.FunTexts.{joined_with, string_text, expr_text, expr_texts}
 use Rattle.def_fun_printing.proofs.Offsets.{unplaced, unplaced_each}
 use Rattle.def_fun_printing.proofs.TextTokens.{Follows, follows_by, IsFront, one_span, blank_before, open_paren_front, close_paren_front, open_bracket_front, close_bracket_front, open_brace_front, close_brace_front, comma_front, bar_front, operator_front, variable_front, whole_front, minus_before, atom_front, string_front}
 

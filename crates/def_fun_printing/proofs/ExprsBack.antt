@@ -1,23 +1,21 @@
 -- The expression that a term is printed as is translated to that term.
-use Rattle.std.proofs.Common.{◌≡◌, ◌⊎◌, ℕ, zero, suc, ◌+◌, ◌*◌, ◌<◌, ◌≤◌, ◌^◌, ◌==◌, ℤ, pos, negsuc, max, nat_le, nat_lt, map, List, [], ◌∷◌, ◌++◌, length, get_or, Bool, true, false, not, ◌&&◌, ◌||◌, cond, Option, Some, None, Result, Ok, Err, codes, decimal, refl, ap, ap₂, sym, ◌∙◌, subst, arith, append_assoc, append-nil, length-append, inl, inr}
+use Rattle.std.proofs.Common.{◌≡◌, ℕ, suc, ◌+◌, ◌≤◌, ◌==◌, ℤ, pos, negsuc, nat_le, map, List, [], ◌∷◌, ◌++◌, length, Bool, true, false, not, ◌&&◌, ◌||◌, cond, Option, Some, None, Ok, Err, codes, decimal, refl, ap, ap₂, sym, ◌∙◌, subst, arith, append-nil}
 use Rattle.std.specs.Option.{unwrap_or}
 use Rattle.std.specs.Str.{bytes_eq}
-use Rattle.std.proofs.lemmas.Bool.{and_parts, and_from, and_left, or_cases, or_parts, cond_both, cond-true, cond-false, leb-true, le-leb, ltb-true, eqb-true, eq-eqb, not-true, not-false, both_ways, false_from_ne_true}
+use Rattle.std.proofs.lemmas.Bool.{and_parts, and_from, and_left, cond_both, cond-true, cond-false, leb-true, le-leb, ltb-true, eqb-true, both_ways}
 use Rattle.std.proofs.lemmas.Bool.Decides.{nat_tests}
 use Rattle.std.proofs.lemmas.Fmt.{length-decimal-le}
 use Rattle.def_term.specs.Tree.{Tree, Trees, count, elements, of_elements, depth, greatest_depth}
 use Rattle.def_term.specs.Tree as term
 use Rattle.def_term.specs.Names.{Name, word}
-use Rattle.def_term.specs.Text.{is_digit, is_upper, is_name_byte, are_name_bytes, is_among}
+use Rattle.def_term.specs.Text.{is_digit, is_name_byte, are_name_bytes, is_among}
 use Rattle.def_text.specs.Grammar.{of_codes}
 use Rattle.def_text.specs.Limits.{LIST_LENGTH, in_range, sizes_fit, all_sizes_fit}
 use Rattle.def_text.specs.Tokens.{all_are, is_printable}
 use Rattle.def_text.specs.Writable.{is_writable, are_writable}
-use Rattle.def_text.proofs.Complete.{elements-of}
-use Rattle.def_text.proofs.TokenSound.{same_names}
-use Rattle.def_spec.specs.Expressions.{Dialect, Position, Expr, Exprs, and_expr}
+use Rattle.def_spec.specs.Expressions.{Dialect, Position, Expr, Exprs}
 use Rattle.def_spec.specs.Matching.{Pattern, occurs}
-use Rattle.def_spec.specs.Reading.{SpecFault, badarg, Reads, then_read, AtomKind, a_variable, a_wrong_variable, a_plain_atom, atom_kind, is_wildcard, Callee, named_call, call_of, atom_expr_of_kind, is_constant, only_element, unsupported_names, expr_of, exprs_of}
+use Rattle.def_spec.specs.Reading.{SpecFault, badarg, Reads, then_read, AtomKind, a_variable, a_wrong_variable, a_plain_atom, atom_kind, is_wildcard, named_call, atom_expr_of_kind, is_constant, unsupported_names, expr_of, exprs_of}
 use Rattle.def_fun.specs.Operators as op
 use Rattle.def_fun.specs.Operators.{FunOperator, operator_name, operator_binding, level_of, left_level, right_level, PREFIX_LEVEL, is_infix, is_prefix}
 use Rattle.def_fun.specs.Trees as tree
@@ -25,15 +23,15 @@ use Rattle.def_fun.specs.Trees.{FunExpr, FunExprs, each_expr, nesting_depth, gre
 use Rattle.def_fun.specs.Tokens.{is_variable_name}
 use Rattle.def_fun.specs.Grammar.{has_one, has_level, have_levels}
 use Rattle.def_fun.specs.Limits.{GREATEST_INTEGER, is_sized, are_sized}
-use Rattle.def_fun.specs.Refusals.{too_large_at, unsupported, no_function, list_with_tail, OrRefusal, then_fun}
-use Rattle.def_fun.specs.Variables.{ClauseNames, ANY, dollar_name, VariableKind, the_whole, anything_there, of_number, of_no_head, variable_kind}
-use Rattle.def_fun.specs.Constants.{Computation, not_computed, gives, gives_too_large, gives_any_truth, or_computed, truth_value, if_negation, computed_between, computed_before}
-use Rattle.def_fun.specs.Calls.{may_call, is_object, is_bindings, FunCall, the_object, the_bindings, a_call, named_fun_call}
-use Rattle.def_fun.specs.Translation.{VARIABLES, variable_term, elements_of_list, onto_tail, TranslatedExpr, no_constant, constant_as, computed_value, begins_with_dollar, const_of, atom_term, all_terms, with_constant, all_constants, constant_of, list_term, doubled_tuple, name_tuple, constants_onto, operator_translated, prefix_translated, computed_if_one, computed_if_two, call_translated, expr_translated, exprs_translated}
-use Rattle.def_fun.specs.FunTexts.{OrReason, NoFunReason, no_dollar_atom, no_other_const, no_such_call, is_computed, no_pid, then_print, numbered_variable, integer_expr, is_character_code, are_character_codes, character_code, is_text, string_expr, expr_level, in_level, first_changed, tuple_changed, with_string, with_string_in, infix_operators, prefix_operators, operator_named, PrintedCall, prints_between, prints_before, prints_call, prints_nothing, or_call, between_or, before_or, printed_call, would_compute, computation_of, value_unless, value_of_atom, value_of_const, has_list, have_list, value_in_fun, values_in_fun, operator_expr, operands_kept, atom_printed, const_printed, unless_computed, call_printed, expr_of_term, exprs_of_terms}
+use Rattle.def_fun.specs.Refusals.{too_large_at, then_fun}
+use Rattle.def_fun.specs.Variables.{ClauseNames, ANY, dollar_name, anything_there, of_number, variable_kind}
+use Rattle.def_fun.specs.Constants.{Computation, not_computed, gives, gives_too_large, gives_any_truth, or_computed, truth_value, if_negation}
+use Rattle.def_fun.specs.Calls.{may_call, is_object, is_bindings, a_call, named_fun_call}
+use Rattle.def_fun.specs.Translation.{VARIABLES, variable_term, onto_tail, TranslatedExpr, no_constant, constant_as, begins_with_dollar, const_of, all_terms, with_constant, all_constants, constant_of, list_term, doubled_tuple, name_tuple, constants_onto, operator_translated, prefix_translated, computed_if_one, computed_if_two, call_translated, expr_translated, exprs_translated}
+use Rattle.def_fun.specs.FunTexts.{OrReason, NoFunReason, no_dollar_atom, no_other_const, no_such_call, is_computed, no_pid, then_print, numbered_variable, integer_expr, are_character_codes, character_code, is_text, string_expr, expr_level, in_level, first_changed, tuple_changed, with_string, with_string_in, infix_operators, prefix_operators, operator_named, PrintedCall, prints_between, prints_before, prints_call, prints_nothing, between_or, before_or, printed_call, would_compute, computation_of, value_unless, value_of_atom, has_list, have_list, value_in_fun, values_in_fun, operator_expr, operands_kept, atom_printed, const_printed, unless_computed, call_printed, expr_of_term, exprs_of_terms}
 use Rattle.def_fun.proofs.NumberedNames.{same_name}
 use Rattle.def_fun.proofs.OpenParts.{lower_level, level_bounds}
-use Rattle.def_fun_printing.proofs.NumberAtoms.{number_digits, number_kind, dollar_back}
+use Rattle.def_fun_printing.proofs.NumberAtoms.{number_digits, dollar_back}
 use Rattle.def_fun_printing.proofs.CallNames.{plain_call}
 use Rattle.def_fun_printing.proofs.Offsets.{unplaced, unplaced_each}
 use Rattle.def_fun_printing.proofs.ExprTexts.{HasText, HaveText}

@@ -1,16 +1,16 @@
 -- A fun is read where its tokens are.
-use Rattle.std.proofs.Common.{◌≡◌, ◌⊎◌, ℕ, ◌+◌, ◌<◌, ◌≤◌, max, nat_le, nat_lt, List, [], ◌∷◌, ◌++◌, length, Bool, true, false, not, ◌&&◌, ◌||◌, cond, Option, Some, None, Result, Ok, Err, refl, ap, ap₂, sym, ◌∙◌, subst, arith, append_assoc, append-nil, length-append, inl, inr}
+use Rattle.std.proofs.Common.{◌≡◌, ◌⊎◌, ℕ, ◌+◌, ◌<◌, ◌≤◌, max, nat_le, nat_lt, List, [], ◌∷◌, ◌++◌, length, Bool, true, false, not, ◌&&◌, ◌||◌, Option, Some, None, Result, Ok, refl, ap, ap₂, sym, ◌∙◌, subst, arith, append_assoc, append-nil, length-append, inl, inr}
 use Rattle.std.proofs.lemmas.Bool.{and_parts, or_cases, cond-true, lt-ltb, leb-true}
 use Rattle.def_text.specs.Limits.{LIST_LENGTH}
-use Rattle.def_text.specs.Faults.{FaultKind, misplaced, too_large}
+use Rattle.def_text.specs.Faults.{FaultKind}
 use Rattle.def_fun.specs.Tokens as token
 use Rattle.def_fun.specs.Tokens.{FunToken, FunSpan}
-use Rattle.def_fun.specs.Trees.{FunExpr, variable, list, list_onto, nesting_depth, is_pattern, are_patterns, is_variable_expr, is_list_pattern, FunHead, alone, both, FunClause}
-use Rattle.def_fun.specs.Grammar.{Piece, at_offset, anywhere, IsPiece, ArePieces, expr_pieces, has_level, is_fun_head, head_pieces, comma_pieces, guard_pieces, when_pieces, clause_pieces, clauses_pieces, fun_pieces, are_exprs, are_guards, is_fun_clause, are_fun_clauses, DerivesFun}
+use Rattle.def_fun.specs.Trees.{FunExpr, variable, list, list_onto, nesting_depth, is_pattern, is_variable_expr, is_list_pattern, FunHead, alone, both, FunClause}
+use Rattle.def_fun.specs.Grammar.{anywhere, ArePieces, expr_pieces, has_level, is_fun_head, head_pieces, comma_pieces, guard_pieces, when_pieces, clause_pieces, clauses_pieces, fun_pieces, are_exprs, are_guards, is_fun_clause, are_fun_clauses, DerivesFun}
 use Rattle.def_fun.specs.Limits.{CLAUSES, is_sized, each_sized, is_sized_row, are_sized_guards, is_sized_head, is_sized_clause, are_sized_clauses, clause_count, spec_clauses, head_nesting, row_nesting, guards_nesting, clauses_nesting, FunFits}
-use Rattle.def_fun.specs.Reading.{ExprState, wants, has, gather, fun_expr_step, if_none_open, ended_expr, ClauseSoFar, FunState, before_fun, before_clause, in_head, after_head, in_guard, in_fun_body, after_end, after_stop, head_of_parts, begins_head, clauses_in_guard, clauses_in_body, with_guard, with_clause, if_sized, on_step, expr_start, begin_fun, begin_clause, begin_guard, stop_fun, FunFault, head_after, guard_after, body_after, ends_or, head_step, fun_step, after_fun_step, fun_run, fun_end, fun_finish, read_fun}
+use Rattle.def_fun.specs.Reading.{ExprState, wants, has, fun_expr_step, if_none_open, ended_expr, ClauseSoFar, FunState, before_fun, before_clause, in_head, after_head, in_guard, in_fun_body, after_end, after_stop, head_of_parts, begins_head, clauses_in_guard, clauses_in_body, with_guard, with_clause, if_sized, on_step, expr_start, begin_fun, begin_clause, begin_guard, stop_fun, FunFault, head_after, guard_after, body_after, ends_or, head_step, fun_step, after_fun_step, fun_run, fun_finish, read_fun}
 use Rattle.def_fun_printing.specs.HeadLevels.{is_level_head, are_level_heads}
-use Rattle.def_fun_printing.proofs.ExprReads.{SplitPieces, split_pieces, is_end, GoesOn, IsWithin, is_pattern_where, sized_in, stands_in, Passes, Reads, expr_reads}
+use Rattle.def_fun_printing.proofs.ExprReads.{split_pieces, is_end, GoesOn, IsWithin, sized_in, stands_in, Passes, Reads, expr_reads}
 
 -- ---- sizes and levels
 

@@ -1,5 +1,5 @@
 -- The text that a specification is printed as is a fun that has it.
-use Rattle.std.proofs.Common.{◌≡◌, ℕ, ◌+◌, ◌<◌, ◌≤◌, max, nat_le, List, [], ◌∷◌, ◌++◌, length, Bool, true, false, ◌&&◌, cond, Result, Ok, Err, codes, refl, ap, ap₂, sym, ◌∙◌, subst, arith, append_assoc, append-nil, length-append, inl}
+use Rattle.std.proofs.Common.{◌≡◌, ℕ, ◌+◌, ◌≤◌, nat_le, List, [], ◌∷◌, ◌++◌, length, Bool, true, false, cond, Result, Ok, Err, codes, refl, ap, sym, ◌∙◌, subst, arith, append_assoc, append-nil, length-append, inl}
 use Rattle.std.proofs.lemmas.Bool.{and_parts, and_from, cond-true, le-leb, leb-true}
 use Rattle.def_term.specs.Tree.{Tree, Trees, none, more, count, elements, of_elements, depth, greatest_depth}
 use Rattle.def_term.specs.Tree as term
@@ -16,9 +16,9 @@ use Rattle.def_fun.specs.Tokens as token
 use Rattle.def_fun.specs.Tokens.{FunSpan, FunTokens}
 use Rattle.def_fun.specs.Scan.{fun_span, fun_spans}
 use Rattle.def_fun.specs.Grammar.{Piece, anywhere, ArePieces, clause_pieces, clauses_pieces, fun_pieces, is_fun_clause, are_fun_clauses, DerivesFun}
-use Rattle.def_fun.specs.Limits.{FUN_DEPTH, CLAUSES, is_sized_clause, are_sized_clauses, clause_count, spec_clauses, head_nesting, row_nesting, guards_nesting, clauses_nesting, FunFits}
+use Rattle.def_fun.specs.Limits.{FUN_DEPTH, CLAUSES, is_sized_clause, are_sized_clauses, spec_clauses, clauses_nesting, FunFits}
 use Rattle.def_fun.specs.Reading.{read_fun}
-use Rattle.def_fun.specs.Refusals.{FunRefusal, too_long, too_large_at, OrRefusal, then_fun}
+use Rattle.def_fun.specs.Refusals.{too_long, too_large_at, OrRefusal, then_fun}
 use Rattle.def_fun.specs.Translation.{list_term, alternative_term, alternatives_of, within_length, with_alternatives, with_fun_clauses, tree_of_fun}
 use Rattle.def_fun.specs.Answers.{read_or_refusal, fun_of_text, spec_of_text}
 use Rattle.def_fun.specs.FunTexts.{NoFun, then_clause, joined_with, clause_printed, clauses_printed, CLAUSE_BREAK, fun_text, fun_printed}
@@ -30,7 +30,7 @@ use Rattle.def_fun_printing.proofs.TextTokens.{Follows, follows_by, one_span, bl
 use Rattle.def_fun_printing.proofs.ExprTexts.{pieces_joined, Spans}
 use Rattle.def_fun_printing.proofs.FunReads.{derived_is_read}
 use Rattle.def_fun_printing.proofs.RowsBack.{clause_ok}
-use Rattle.def_fun_printing.proofs.ClausesBack.{IsGoodClause, IsClauseWritten, IsClauseBack, clause_back}
+use Rattle.def_fun_printing.proofs.ClausesBack.{IsGoodClause, IsClauseBack, clause_back}
 
 -- ---- texts and tokens of clauses
 

@@ -1,8 +1,7 @@
 -- The pattern that a term is printed as is translated to that term; its variables are numbered as they were.
-use Rattle.std.proofs.Common.{◌≡◌, ◌⊎◌, ℕ, zero, suc, ◌+◌, ◌<◌, ◌≤◌, ◌^◌, ◌==◌, ℤ, pos, negsuc, max, nat_le, nat_lt, map, List, [], ◌∷◌, ◌++◌, length, Bool, true, false, not, ◌&&◌, ◌||◌, cond, Option, Some, None, Result, Ok, Err, codes, decimal, refl, ap, ap₂, sym, ◌∙◌, subst, arith, append_assoc, append-nil, length-append, inl, inr}
+use Rattle.std.proofs.Common.{◌≡◌, ℕ, zero, suc, ◌+◌, ◌<◌, ◌≤◌, ◌==◌, ℤ, pos, negsuc, max, nat_le, nat_lt, List, [], ◌∷◌, ◌++◌, length, Bool, true, false, ◌||◌, cond, Some, None, Ok, Err, codes, decimal, refl, ap, ap₂, sym, ◌∙◌, subst, arith, length-append, inl, inr}
 use Rattle.std.specs.Str.{bytes_eq}
-use Rattle.std.proofs.lemmas.Bool.{and_parts, and_from, or_cases, or_parts, or_left, or_right, cond-true, cond-false, leb-true, leb-false, le-leb, ltb-true, ltb-false, eqb-true, eqb-false, ne_eqb, not-true, both_ways, false_from_ne_true}
-use Rattle.std.proofs.lemmas.Bool.Decides.{nat_tests}
+use Rattle.std.proofs.lemmas.Bool.{and_parts, and_from, or_cases, or_parts, or_left, or_right, cond-true, cond-false, leb-true, leb-false, le-leb, ltb-true, ltb-false, eqb-true, eqb-false, both_ways, false_from_ne_true}
 use Rattle.std.proofs.lemmas.Fmt.{decimal_injective}
 use Rattle.def_term.specs.Tree.{Tree, Trees, count, elements, of_elements, depth, greatest_depth}
 use Rattle.def_term.specs.Tree as term
@@ -11,23 +10,21 @@ use Rattle.def_term.specs.Text.{is_among}
 use Rattle.def_text.specs.Limits.{LIST_LENGTH, in_range, sizes_fit, all_sizes_fit}
 use Rattle.def_text.specs.Tokens.{all_are, is_printable}
 use Rattle.def_text.specs.Writable.{is_writable, are_writable}
-use Rattle.def_text.proofs.Complete.{elements-of}
 use Rattle.def_spec.specs.Matching.{Pattern, variable, anything, only_term, in_tuple, in_list, Patterns, no_patterns, and_pattern, occurs, occurs_in_some}
 use Rattle.def_spec.specs.Reading.{SpecFault, badarg, Reads, then_read, AtomKind, a_variable, a_wrong_variable, a_plain_atom, atom_kind, is_wildcard, pattern_of_kind, pattern_of, patterns_of, head_of_kind, head_of}
-use Rattle.def_fun.specs.Operators as op
 use Rattle.def_fun.specs.Trees as tree
 use Rattle.def_fun.specs.Trees.{FunExpr, FunExprs, each_expr, nesting_depth, greatest_nesting, is_pattern, are_patterns, alone}
 use Rattle.def_fun.specs.Grammar.{has_level, have_levels, is_fun_head}
 use Rattle.def_fun.specs.Limits.{GREATEST_INTEGER, is_sized, are_sized}
-use Rattle.def_fun.specs.Refusals.{too_large_at, too_deep_at, head_atom, OrRefusal, then_fun}
-use Rattle.def_fun.specs.Variables.{ClauseNames, ANY, dollar_name, names_of, variables_in, variables_in_each, with_name, with_names, number_among, the_whole, anything_there, of_number, kind_of_number, variable_kind}
-use Rattle.def_fun.specs.Translation.{VARIABLES, variable_term, is_variable_atom, negative_integer, pattern_term, pattern_terms, HEAD_DEPTH, within_depth, head_term, list_term}
-use Rattle.def_fun.specs.FunTexts.{OrReason, NoFunReason, wrong_order, no_head_atom, no_pid, then_print, numbered_variable, integer_expr, is_character_code, are_character_codes, is_text, string_expr, PrintedPattern, PrintedPatterns, pattern_variable, pattern_atom, pattern_of_term, patterns_of_terms, head_of_term}
+use Rattle.def_fun.specs.Refusals.{then_fun}
+use Rattle.def_fun.specs.Variables.{ClauseNames, ANY, dollar_name, variables_in, variables_in_each, with_name, with_names, number_among, of_number, kind_of_number, variable_kind}
+use Rattle.def_fun.specs.Translation.{VARIABLES, variable_term, is_variable_atom, pattern_term, pattern_terms}
+use Rattle.def_fun.specs.FunTexts.{OrReason, NoFunReason, wrong_order, no_head_atom, no_pid, then_print, numbered_variable, integer_expr, is_character_code, are_character_codes, is_text, string_expr, PrintedPattern, PrintedPatterns, pattern_atom, pattern_of_term, patterns_of_terms, head_of_term}
 use Rattle.def_fun.proofs.NumberedNames.{same_name, equal_names}
-use Rattle.def_fun_printing.proofs.NumberAtoms.{number_kind, dollar_back}
+use Rattle.def_fun_printing.proofs.NumberAtoms.{dollar_back}
 use Rattle.def_fun_printing.proofs.Offsets.{unplaced, unplaced_each}
 use Rattle.def_fun_printing.proofs.ExprTexts.{HasText, HaveText}
-use Rattle.def_fun_printing.proofs.ExprsBack.{number_name, number_sized, IsTextBack, text_back}
+use Rattle.def_fun_printing.proofs.ExprsBack.{number_name, number_sized, text_back}
 
 -- ---- results
 

@@ -1,7 +1,7 @@
 -- Rows: what the premises of the laws are for, and specifications with what they are printed as and what that has.
-use Rattle.std.proofs.Common.{◌≡◌, ℕ, zero, suc, pos, negsuc, List, [], ◌∷◌, ◌++◌, true, false, Result, Ok, Err, codes, refl, inl}
+use Rattle.std.proofs.Common.{◌≡◌, ℕ, zero, suc, pos, negsuc, List, [], ◌∷◌, false, Result, Ok, Err, codes, refl, inl}
 use Rattle.std.specs.Fmt.{digits}
-use Rattle.def_term.specs.Tree.{Tree, int, atom, list, tuple, Trees, none, more, depth, of_elements}
+use Rattle.def_term.specs.Tree.{Tree, int, atom, list, tuple, none, more, depth, of_elements}
 use Rattle.def_term.specs.Names.{word}
 use Rattle.def_term.specs.Text.{is_written_bare}
 use Rattle.def_text.specs.Writable.{is_writable}
@@ -14,7 +14,7 @@ use Rattle.def_fun.specs.Trees.{alone, FunClause}
 use Rattle.def_fun.specs.Grammar.{DerivesFun}
 use Rattle.def_fun.specs.Scan.{fun_spans}
 use Rattle.def_fun.specs.Translation.{tree_of_fun}
-use Rattle.def_fun.specs.Answers.{spec_of_text, fun_answer}
+use Rattle.def_fun.specs.Answers.{fun_answer}
 use Rattle.def_fun.specs.FunTexts.{NoFun, no_fun_line, fun_printed}
 use Rattle.def_fun_printing.specs.HeadLevels.{are_level_heads}
 

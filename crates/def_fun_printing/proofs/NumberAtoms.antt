@@ -1,12 +1,12 @@
 -- The atoms of variables with numbers.
-use Rattle.std.proofs.Common.{◌≡◌, ℕ, zero, suc, ◌+◌, ◌<◌, ◌≤◌, ◌^◌, ◌==◌, nat_le, List, [], ◌∷◌, length, get_or, Bool, true, false, not, ◌&&◌, cond, decimal, refl, ap, ap₂, sym, ◌∙◌, arith}
+use Rattle.std.proofs.Common.{◌≡◌, ℕ, zero, suc, ◌<◌, ◌≤◌, ◌^◌, ◌==◌, nat_le, List, [], ◌∷◌, length, get_or, Bool, true, false, not, ◌&&◌, cond, decimal, refl, ap, ap₂, sym, ◌∙◌, arith}
 use Rattle.std.proofs.lemmas.Bool.{and_parts, and_from, cond-true, le-leb, leb-true, ne_eqb, not_from_false, not-true, eqb-true, eq-eqb, both_ways}
 use Rattle.std.proofs.lemmas.Fmt.{decimal_is_IsNumeral, decimal_nonempty, decimal_digit, first_decimal, length-decimal-le, decimal-digits_value}
 use Rattle.def_term.specs.Names.{Name}
 use Rattle.def_term.specs.Text.{is_digit, number_after}
 use Rattle.def_text.specs.Tokens.{all_are}
 use Rattle.def_text.proofs.Numbers.{own}
-use Rattle.def_spec.specs.Reading.{all_digits, is_dollar_number, is_plain_number, digits_of, AtomKind, a_variable, a_wrong_variable, a_plain_atom, atom_kind}
+use Rattle.def_spec.specs.Reading.{all_digits, is_dollar_number, is_plain_number, digits_of, a_variable, a_wrong_variable, a_plain_atom, atom_kind}
 use Rattle.def_fun.specs.Variables.{dollar_name}
 
 pub digits_same : (ds : List ℕ) → all_digits ds ≡ all_are is_digit ds

@@ -1,5 +1,5 @@
 -- Trees without their offsets: nothing but refusals depends on these.
-use Rattle.std.proofs.Common.{◌≡◌, ◌⊎◌, ℕ, ◌+◌, max, nat_le, List, [], ◌∷◌, ◌++◌, length, Bool, true, false, ◌&&◌, ◌||◌, cond, Option, Some, None, Result, Ok, Err, refl, ap, ap₂, sym, ◌∙◌, subst, arith, inl, inr}
+use Rattle.std.proofs.Common.{◌≡◌, ℕ, ◌+◌, max, nat_le, List, [], ◌∷◌, ◌++◌, length, Bool, true, false, ◌&&◌, cond, Ok, Err, refl, ap, ap₂, sym, ◌∙◌, arith}
 use Rattle.def_term.specs.Tree.{Tree, list, of_elements}
 use Rattle.def_term.specs.Tree as term
 use Rattle.def_term.specs.Names.{Name}

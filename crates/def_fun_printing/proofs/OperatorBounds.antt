@@ -1,5 +1,5 @@
 -- How the levels of operators are related.
-use Rattle.std.proofs.Common.{◌≡◌, ◌⊎◌, ◌+◌, ◌<◌, ◌≤◌, true, false, arith, inl, inr}
+use Rattle.std.proofs.Common.{◌≡◌, ◌⊎◌, ◌<◌, ◌≤◌, true, false, arith, inl, inr}
 use Rattle.def_fun.specs.Operators as op
 use Rattle.def_fun.specs.Operators.{FunOperator, operator_binding, level_of, left_level, right_level, is_infix}
 

@@ -1,8 +1,7 @@
 -- The specification of a fun is printed.
-use Rattle.std.proofs.Common.{◌≡◌, ℕ, ◌+◌, nat_le, max, List, [], ◌∷◌, ◌++◌, length, Bool, true, false, ◌&&◌, cond, Result, Ok, Err, codes, refl, ap, sym, ◌∙◌, subst}
+use Rattle.std.proofs.Common.{◌≡◌, ℕ, ◌+◌, nat_le, List, [], ◌∷◌, ◌++◌, length, Bool, true, false, ◌&&◌, cond, Result, Ok, Err, codes, refl, ap, sym, ◌∙◌, subst}
 use Rattle.std.proofs.lemmas.Bool.{and_parts}
-use Rattle.def_term.specs.Tree.{Tree, Trees, of_elements, triple, depth}
-use Rattle.def_term.specs.Tree as term
+use Rattle.def_term.specs.Tree.{Tree, of_elements, triple, depth}
 use Rattle.def_term.specs.Text.{w}
 use Rattle.def_text.specs.Spelling.{LENGTH}
 use Rattle.def_spec.specs.Expressions.{Dialect, Position, in_condition, in_body}
@@ -14,12 +13,12 @@ use Rattle.def_fun.specs.Scan.{fun_spans}
 use Rattle.def_fun.specs.Limits.{FUN_DEPTH}
 use Rattle.def_fun.specs.Refusals.{FunRefusal, too_long, too_deep_at, too_large_at, OrRefusal, then_fun}
 use Rattle.def_fun.specs.Variables.{ClauseNames, names_of}
-use Rattle.def_fun.specs.Translation.{TranslatedExpr, expr_translated, PART_DEPTH, within_depth, part_term, part_terms, head_term, list_term, alternative_term, alternatives_of, within_length, with_alternatives, with_fun_clauses, tree_of_fun}
+use Rattle.def_fun.specs.Translation.{expr_translated, PART_DEPTH, within_depth, part_term, part_terms, head_term, list_term, alternative_term, alternatives_of, within_length, with_alternatives, with_fun_clauses, tree_of_fun}
 use Rattle.def_fun.specs.Answers.{reading_refusal, read_or_refusal, fun_of_text, spec_of_text}
-use Rattle.def_fun.specs.FunTexts.{OrReason, NoFun, NoFunReason, ClausePart, the_head, the_condition, the_expression, PrintedPattern, head_of_term, expr_of_term, reason_at, then_clause, joined_with, expr_text, parts_printed, when_text, body_printed, clause_of_parts_printed, clause_printed, clauses_printed, fun_text, fun_printed}
+use Rattle.def_fun.specs.FunTexts.{ClausePart, the_head, the_condition, the_expression, PrintedPattern, expr_of_term, reason_at, then_clause, joined_with, expr_text, parts_printed, when_text, body_printed, clause_printed, clauses_printed, fun_text, fun_printed}
 use Rattle.def_fun.proofs.FunRuns.{read_derives}
 use Rattle.def_fun.proofs.Translations.{then_ok}
-use Rattle.def_fun_printing.proofs.PrintedTerms.{IsPrinted, printed}
+use Rattle.def_fun_printing.proofs.PrintedTerms.{printed}
 use Rattle.def_fun_printing.proofs.PrintedHeads.{head_printed}
 
 same_term : (t u : Tree) → ◌≡◌ {A = OrRefusal Tree} (Ok t) (Ok u) → t ≡ u

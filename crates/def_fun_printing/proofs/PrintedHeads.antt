@@ -1,7 +1,7 @@
 -- The term of a head is printed: its variables have numbers in their order.
-use Rattle.std.proofs.Common.{◌≡◌, ◌⊎◌, ℕ, zero, suc, ◌+◌, ◌<◌, ◌≤◌, ◌==◌, pos, neg_ℤ, nat_le, nat_lt, max, List, [], ◌∷◌, ◌++◌, length, Bool, true, false, not, ◌&&◌, ◌||◌, cond, Option, Some, None, Result, Ok, Err, codes, refl, ap, ap₂, sym, ◌∙◌, subst, arith, append_assoc, length-append, inl, inr}
+use Rattle.std.proofs.Common.{◌≡◌, ℕ, ◌+◌, ◌<◌, ◌≤◌, ◌==◌, pos, neg_ℤ, nat_le, nat_lt, max, List, [], ◌∷◌, ◌++◌, length, Bool, true, false, ◌&&◌, ◌||◌, cond, Option, Some, Ok, Err, codes, refl, ap, sym, ◌∙◌, subst, arith, append_assoc, length-append}
 use Rattle.std.specs.Str.{bytes_eq}
-use Rattle.std.proofs.lemmas.Bool.{and_parts, and_from, cond-true, cond-false, leb-true, not-true, both_ways, false_from_ne_true}
+use Rattle.std.proofs.lemmas.Bool.{and_parts, cond-true, cond-false, leb-true, both_ways, false_from_ne_true}
 use Rattle.std.proofs.lemmas.Bool.Decides.{nat_tests}
 use Rattle.std.proofs.lemmas.List.{append-nil}
 use Rattle.def_term.specs.Tree.{Tree, Trees, elements, of_elements, depth}
@@ -10,16 +10,15 @@ use Rattle.def_term.specs.Names.{Name, word}
 use Rattle.def_term.specs.Text.{is_digit, is_among}
 use Rattle.def_text.specs.Grammar.{of_codes}
 use Rattle.def_text.specs.Limits.{LIST_LENGTH}
-use Rattle.def_text.specs.Tokens.{all_are}
 use Rattle.def_text.proofs.Complete.{elements-of}
-use Rattle.def_spec.specs.Reading.{AtomKind, a_variable, a_wrong_variable, a_plain_atom, all_digits, is_dollar_number, atom_kind, is_wildcard}
+use Rattle.def_spec.specs.Reading.{a_plain_atom, all_digits, is_dollar_number, atom_kind, is_wildcard}
 use Rattle.def_fun.specs.Trees as tree
 use Rattle.def_fun.specs.Trees.{FunExpr, FunExprs, first_byte, joined_codes, FunHead, alone, both}
 use Rattle.def_fun.specs.Refusals.{FunRefusal, too_large_at, too_deep_at, head_atom, list_with_tail, minus_alone, whole_head, OrRefusal, then_fun}
-use Rattle.def_fun.specs.Variables.{ClauseNames, ANY, dollar_name, name_of_variable, name_of_whole, matched_part, names_of, variables_in, variables_in_each, is_of_whole, with_name, with_names, number_among, VariableKind, the_whole, anything_there, of_number, of_no_head, kind_of_number, variable_kind}
-use Rattle.def_fun.specs.Translation.{VARIABLES, variable_term, is_proper_tail, elements_of_list, onto_tail, are_digits, is_signed, is_variable_atom, negative_integer, pattern_term, pattern_terms, HEAD_DEPTH, within_depth, is_same_name, name_or_none, head_term, list_term}
-use Rattle.def_fun.specs.FunTexts.{OrReason, NoFunReason, wrong_order, no_head_atom, then_print, numbered_variable, integer_expr, is_character_code, are_character_codes, is_text, string_expr, PrintedPattern, PrintedPatterns, pattern_variable, pattern_atom, pattern_of_term, patterns_of_terms, head_of_term}
-use Rattle.def_fun.proofs.NumberedNames.{equal_names, same_name, has_number, among_numbered, numbers_are_places}
+use Rattle.def_fun.specs.Variables.{ClauseNames, ANY, dollar_name, name_of_variable, name_of_whole, matched_part, names_of, variables_in, variables_in_each, is_of_whole, with_name, with_names, number_among, the_whole, anything_there, kind_of_number, variable_kind}
+use Rattle.def_fun.specs.Translation.{VARIABLES, variable_term, is_proper_tail, elements_of_list, onto_tail, are_digits, is_signed, is_variable_atom, pattern_term, pattern_terms, HEAD_DEPTH, within_depth, is_same_name, name_or_none, head_term}
+use Rattle.def_fun.specs.FunTexts.{OrReason, no_head_atom, then_print, numbered_variable, integer_expr, is_character_code, are_character_codes, is_text, string_expr, PrintedPattern, PrintedPatterns, pattern_atom, pattern_of_term, patterns_of_terms, head_of_term}
+use Rattle.def_fun.proofs.NumberedNames.{equal_names, same_name}
 use Rattle.def_fun.proofs.Translations.{then_ok}
 use Rattle.def_fun_printing.proofs.NumberAtoms.{number_kind, digits_same}
 

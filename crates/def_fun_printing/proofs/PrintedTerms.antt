@@ -1,5 +1,5 @@
 -- The term of an expression is printed.
-use Rattle.std.proofs.Common.{◌≡◌, ℕ, ◌+◌, pos, ℤ, nat_le, List, [], ◌∷◌, ◌++◌, length, Bool, true, false, not, ◌&&◌, ◌||◌, cond, Option, Some, None, Result, Ok, Err, codes, refl, ap, ap₂, sym, ◌∙◌, subst, arith}
+use Rattle.std.proofs.Common.{◌≡◌, ℕ, ◌+◌, pos, ℤ, nat_le, List, [], ◌∷◌, ◌++◌, length, Bool, true, false, not, ◌&&◌, ◌||◌, cond, Option, Some, None, Ok, Err, codes, refl, ap, ap₂, sym, ◌∙◌, subst, arith}
 use Rattle.std.specs.Str.{bytes_eq}
 use Rattle.std.proofs.lemmas.Bool.{and_parts, cond-true, cond-false, leb-true}
 use Rattle.def_term.specs.Tree.{Tree, Trees, count, elements, of_elements}
@@ -17,10 +17,10 @@ use Rattle.def_fun.specs.Trees.{FunExpr, FunExprs, each_expr, first_byte, joined
 use Rattle.def_fun.specs.Grammar.{has_level, have_levels, has_one}
 use Rattle.def_fun.specs.Refusals.{FunRefusal, too_large_at, list_with_tail, OrRefusal, then_fun}
 use Rattle.def_fun.specs.Variables.{ClauseNames, ANY, dollar_name, VariableKind, the_whole, anything_there, of_number, of_no_head, variable_kind}
-use Rattle.def_fun.specs.Constants.{Computation, not_computed, gives, gives_too_large, gives_integer, gives_any, gives_any_truth, or_computed, computed_between, computed_before, if_integers, if_integer, of_two_terms, if_truths, truth_value, if_negation}
+use Rattle.def_fun.specs.Constants.{Computation, not_computed, gives, gives_too_large, gives_any, gives_any_truth, or_computed, if_integers, if_integer, of_two_terms, if_truths, truth_value, if_negation}
 use Rattle.def_fun.specs.Calls.{may_call, FunCall, the_object, the_bindings, a_call, named_fun_call}
-use Rattle.def_fun.specs.Translation.{VARIABLES, variable_term, is_proper_tail, elements_of_list, onto_tail, TranslatedExpr, no_constant, constant_as, computed_value, begins_with_dollar, atom_term, all_terms, with_constant, all_constants, constant_of, list_term, doubled_tuple, name_tuple, constants_onto, operator_translated, prefix_translated, computed_if_one, computed_if_two, call_translated, expr_translated, exprs_translated}
-use Rattle.def_fun.specs.FunTexts.{OrReason, NoFunReason, no_dollar_atom, then_print, numbered_variable, integer_expr, is_character_code, are_character_codes, is_text, string_expr, PrintedCall, prints_between, prints_before, prints_call, printed_call, would_compute, computation_of, value_unless, value_of_atom, value_of_const, has_list, have_list, value_in_fun, values_in_fun, operator_expr, operands_kept, atom_printed, unless_computed, call_printed, expr_of_term, exprs_of_terms}
+use Rattle.def_fun.specs.Translation.{VARIABLES, variable_term, is_proper_tail, elements_of_list, onto_tail, TranslatedExpr, no_constant, computed_value, begins_with_dollar, atom_term, all_terms, with_constant, all_constants, constant_of, list_term, doubled_tuple, name_tuple, constants_onto, operator_translated, prefix_translated, computed_if_one, computed_if_two, call_translated, expr_translated, exprs_translated}
+use Rattle.def_fun.specs.FunTexts.{OrReason, no_dollar_atom, then_print, numbered_variable, integer_expr, is_character_code, are_character_codes, is_text, string_expr, PrintedCall, prints_between, prints_before, prints_call, printed_call, would_compute, computation_of, value_unless, value_of_atom, has_list, have_list, value_in_fun, values_in_fun, operator_expr, operands_kept, atom_printed, unless_computed, call_printed, expr_of_term, exprs_of_terms}
 use Rattle.def_fun.proofs.Translations.{then_ok}
 use Rattle.def_fun_printing.proofs.NumberAtoms.{number_kind}
 use Rattle.def_fun_printing.proofs.CallNames.{plain_call, printed_as_call, call_may, no_const_name, printed_between}

@@ -1,20 +1,20 @@
 -- The conditions of a clause, and the expressions of its body: what is printed of them, and what that is.
-use Rattle.std.proofs.Common.{◌≡◌, ℕ, ◌+◌, ◌<◌, ◌≤◌, max, nat_le, List, [], ◌∷◌, ◌++◌, length, Bool, true, false, ◌&&◌, cond, Option, Some, None, Result, Ok, Err, refl, ap, ap₂, sym, ◌∙◌, subst, arith, append_assoc, append-nil}
-use Rattle.std.proofs.lemmas.Bool.{and_parts, and_from, cond-true, le-leb, leb-true}
-use Rattle.def_term.specs.Tree.{Tree, Trees, none, more, count, elements, of_elements, depth, greatest_depth}
+use Rattle.std.proofs.Common.{◌≡◌, ℕ, ◌+◌, ◌≤◌, max, nat_le, List, [], ◌∷◌, ◌++◌, length, true, false, ◌&&◌, Option, Result, Ok, Err, refl, ap, sym, ◌∙◌, arith, append-nil}
+use Rattle.std.proofs.lemmas.Bool.{and_parts, and_from, cond-true, le-leb}
+use Rattle.def_term.specs.Tree.{Tree, Trees, none, more, count, elements, depth, greatest_depth}
 use Rattle.def_text.specs.Limits.{LIST_LENGTH}
 use Rattle.def_spec.specs.Expressions.{Dialect, Position}
 use Rattle.def_fun.specs.Trees as tree
 use Rattle.def_fun.specs.Trees.{FunExpr, FunExprs, each_expr, first_byte, nesting_depth, greatest_nesting}
 use Rattle.def_fun.specs.Tokens as token
-use Rattle.def_fun.specs.Grammar.{Piece, anywhere, expr_pieces, pieces_of, pieces_after, comma_pieces, has_one, has_level, have_levels, are_exprs}
+use Rattle.def_fun.specs.Grammar.{anywhere, expr_pieces, pieces_of, comma_pieces, has_one, has_level, have_levels, are_exprs}
 use Rattle.def_fun.specs.Limits.{is_sized, are_sized, each_sized, is_sized_row, row_nesting}
-use Rattle.def_fun.specs.Refusals.{too_deep_at, OrRefusal, then_fun}
+use Rattle.def_fun.specs.Refusals.{too_deep_at, then_fun}
 use Rattle.def_fun.specs.Variables.{ClauseNames}
 use Rattle.def_fun.specs.Translation.{TranslatedExpr, PART_DEPTH, within_depth, expr_translated, part_term, part_terms}
-use Rattle.def_fun.specs.FunTexts.{OrReason, NoFun, NoFunReason, ClausePart, then_print, reason_at, then_clause, expr_of_term, exprs_of_terms, expr_text, expr_texts, parts_printed}
+use Rattle.def_fun.specs.FunTexts.{OrReason, NoFun, ClausePart, then_print, reason_at, then_clause, expr_of_term, exprs_of_terms, expr_text, expr_texts, parts_printed}
 use Rattle.def_fun_printing.proofs.Offsets.{unplaced, unplaced_each, levels_same, nestings_same, sizes_same, count_same, expr_alike}
-use Rattle.def_fun_printing.proofs.ExprsBack.{IsBack, AreBack, RowBack}
+use Rattle.def_fun_printing.proofs.ExprsBack.{AreBack, RowBack}
 
 -- ---- what is printed
 

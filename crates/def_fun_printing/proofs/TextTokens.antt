@@ -1,13 +1,12 @@
 -- The tokens of printed texts, one after the other.
-use Rattle.std.proofs.Common.{◌≡◌, ◌⊎◌, ℕ, suc, ◌+◌, ◌<◌, ◌≤◌, ◌^◌, ◌==◌, nat_le, List, [], ◌∷◌, ◌++◌, length, drop, Bool, true, false, not, ◌&&◌, ◌||◌, cond, Option, Some, None, codes, decimal, refl, ap, ap₂, sym, ◌∙◌, subst, arith, append_assoc, append-nil, length-append, inl, inr}
+use Rattle.std.proofs.Common.{◌≡◌, ℕ, suc, ◌+◌, ◌<◌, ◌≤◌, ◌^◌, ◌==◌, nat_le, List, [], ◌∷◌, ◌++◌, length, drop, Bool, true, false, not, ◌&&◌, ◌||◌, cond, Option, Some, None, codes, decimal, refl, ap, sym, ◌∙◌, arith, inl, inr}
 use Rattle.std.specs.Prelude.{flat_map}
 use Rattle.std.specs.Option.{unwrap_or}
-use Rattle.std.specs.Str.{bytes_eq}
-use Rattle.std.proofs.lemmas.Bool.{and_parts, and_from, and_left, or_cases, cond_both, cond-true, cond-false, eqb-true, or_right, leb-true, both_ways, not-true, not_from_false, false_from_ne_true}
+use Rattle.std.proofs.lemmas.Bool.{and_parts, and_from, and_left, or_cases, cond_both, cond-true, cond-false, eqb-true, or_right, leb-true, both_ways, not-true, not_from_false}
 use Rattle.std.proofs.lemmas.Bool.Decides.{nat_tests}
 use Rattle.def_term.specs.Names.{Name}
 use Rattle.def_term.specs.Text.{is_digit, is_lower, is_upper, is_name, is_name_byte, is_among, reserved_words, is_written_bare, escape, atom_text}
-use Rattle.def_text.specs.Tokens.{is_blank, gap_len, all_are, stops, number, is_printable, IsDigits}
+use Rattle.def_text.specs.Tokens.{is_blank, gap_len, all_are, stops, is_printable}
 use Rattle.def_fun.specs.Operators as op
 use Rattle.def_fun.specs.Operators.{FunOperator, operator_name}
 use Rattle.def_fun.specs.Spans.{SpansFrom}
@@ -15,7 +14,7 @@ use Rattle.def_fun.specs.Tokens as token
 use Rattle.def_fun.specs.Tokens.{FunToken, token_named, symbols, fun_words, IsSymbol, IsWordToken, is_variable_name, IsVariable, after_digits, IsWhole, is_plain_in, is_escape, escape_code, IsCharacterOf, AreCharactersOf, IsInQuotes, IsQuotedAtom, IsString, a_symbol, a_word, a_variable, a_number, a_quoted_atom, a_string, IsFunToken, FunStands, FunSpan}
 use Rattle.def_fun.specs.Scan.{fun_span}
 use Rattle.def_fun.specs.FunTexts.{string_character, string_text}
-use Rattle.def_fun.proofs.Symbols.{all_rows, named_passes}
+use Rattle.def_fun.proofs.Symbols.{named_passes}
 use Rattle.def_fun_printing.proofs.NumberAtoms.{number_digits}
 
 -- ---- what comes after a token
