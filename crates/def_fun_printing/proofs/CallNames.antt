@@ -45,9 +45,9 @@ action_plain d (f ∷ fs) s n all h =
     let p = and_parts (is_plain_call f.name) (actions_pass fs) all in
     elim (or_cases (bytes_eq f.name s && nat_le n f.arguments && nat_le f.arguments n && has_action d f.action) (is_action_of d fs s n) h) [
       | inl a ↦
-        (let b = and_parts (bytes_eq f.name s && nat_le n f.arguments && nat_le f.arguments n) (has_action d f.action) a in
-        let c = and_parts (bytes_eq f.name s && nat_le n f.arguments) (nat_le f.arguments n) b.0 in
-        named_plain s f.name (and_parts (bytes_eq f.name s) (nat_le n f.arguments) c.0).0 p.0)
+          (let b = and_parts (bytes_eq f.name s && nat_le n f.arguments && nat_le f.arguments n) (has_action d f.action) a in
+          let c = and_parts (bytes_eq f.name s && nat_le n f.arguments) (nat_le f.arguments n) b.0 in
+          named_plain s f.name (and_parts (bytes_eq f.name s) (nat_le n f.arguments) c.0).0 p.0)
       | inr a ↦ action_plain d fs s n p.1 a
     ]
 

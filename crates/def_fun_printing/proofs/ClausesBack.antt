@@ -166,8 +166,11 @@ parts_written e cs bs at to rest ys he hc hb f is m =
       body = body.exprs;
       spans = z ∷ (head.spans ++ y ∷ (guard.spans ++ x ∷ body.spans));
       tokens = subst (λ us. Spans at us ((z ∷ (head.spans ++ y ∷ (guard.spans ++ x ∷ body.spans))) ++ ys)) (sym (parts_joined h g b rest)) (subst (λ us. Spans at (40 ∷ all_bytes) (z ∷ us)) (sym (regroup head.spans guard.spans body.spans y x ys)) opening);
-      pieces = ((refl, refl), pieces_joined (expr_pieces head.expr) (anywhere token.close_paren ∷ (when_pieces (guards_of guard.exprs) ++ anywhere token.arrow ∷ comma_pieces (each_expr body.exprs))) head.spans (y ∷ (guard.spans ++ x ∷ body.spans)) head.pieces
-      (refl, pieces_joined (when_pieces (guards_of guard.exprs)) (anywhere token.arrow ∷ comma_pieces (each_expr body.exprs)) guard.spans (x ∷ body.spans) guard.pieces (refl, subst (λ ps. ArePieces ps body.spans) (sym (row_pieces body.exprs)) body.pieces)));
+      pieces = (
+        (refl, refl),
+        pieces_joined (expr_pieces head.expr) (anywhere token.close_paren ∷ (when_pieces (guards_of guard.exprs) ++ anywhere token.arrow ∷ comma_pieces (each_expr body.exprs))) head.spans (y ∷ (guard.spans ++ x ∷ body.spans)) head.pieces
+            (refl, pieces_joined (when_pieces (guards_of guard.exprs)) (anywhere token.arrow ∷ comma_pieces (each_expr body.exprs)) guard.spans (x ∷ body.spans) guard.pieces (refl, subst (λ ps. ArePieces ps body.spans) (sym (row_pieces body.exprs)) body.pieces)),
+      );
       head_same = head.same;
       conditions_same = guard.same;
       body_same = body.same;

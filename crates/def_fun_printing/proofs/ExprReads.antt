@@ -274,12 +274,13 @@ module _ (pattern : Bool) (limit : ℕ) where
       let all : (ss ++ u ∷ []) ++ us ≡ ss ++ u ∷ us = append_assoc ss (u ∷ []) us in
       let size : length (joined_codes s ((ss ++ u ∷ []) ++ us)) ≤ LIST_LENGTH = subst (λ vs. length (joined_codes s vs) ≤ LIST_LENGTH) (sym all) most in
       let fits : length (joined_codes s (ss ++ u ∷ [])) ≤ LIST_LENGTH = let more_codes = joined_more s (ss ++ u ∷ []) us in omega (arith, more_codes, size) in
-      let z = has (strings at s (ss ++ u ∷ [])) fs in
-      (z,
-      step_of (has (strings at s ss) fs) z x (token.characters u) h.0 (placed true true (nat_le (length (joined_codes s (ss ++ u ∷ []))) LIST_LENGTH) z refl refl (le-leb (length (joined_codes s (ss ++ u ∷ []))) LIST_LENGTH fits)),
-      inr (ap is_end h.0),
-      tt,
-      subst (λ vs. Passes z xs (has (strings at s vs) fs)) all (string_reads (ss ++ u ∷ []) us at s fs xs h.1 size))
+      let z = has (strings at s (ss ++ u ∷ [])) fs in (
+        z,
+        step_of (has (strings at s ss) fs) z x (token.characters u) h.0 (placed true true (nat_le (length (joined_codes s (ss ++ u ∷ []))) LIST_LENGTH) z refl refl (le-leb (length (joined_codes s (ss ++ u ∷ []))) LIST_LENGTH fits)),
+        inr (ap is_end h.0),
+        tt,
+        subst (λ vs. Passes z xs (has (strings at s vs) fs)) all (string_reads (ss ++ u ∷ []) us at s fs xs h.1 size),
+      )
 
   -- ---- brackets
 
@@ -404,12 +405,16 @@ module _ (pattern : Bool) (limit : ℕ) where
       let step = close_step last operand parts (in_open_list at earlier) fs (wants (f ∷ fs)) x token.bar (bar_after pattern limit true) same h.0 refl refl in
       let r = later cut.front cut.first in
       let here = r.same 1 (omega arith) in
-      let z = has (list_onto at (of_exprs (earlier ++ last ∷ [])) e) fs in
-      (wants (f ∷ fs), step, inr (ap is_end h.0), tt,
-      subst (λ us. Passes (wants (f ∷ fs)) us (has (list_onto at all e) fs)) (sym cut.split)
-      (subst (λ us. Passes (wants (f ∷ fs)) (cut.front ++ cut.rest) (has (list_onto at us e) fs)) (ap of_exprs are ∙ exprs-of all)
-      (end_passes (wants (f ∷ fs)) z r.operand r.parts cut.front cut.rest token.close_bracket r.passes cut.later
-      (λ y i. close_step e r.operand r.parts f fs z y token.close_bracket (close_after pattern limit true token.close_bracket) here i refl refl) (open_inside e r.operand r.parts f fs here) tt)))
+      let z = has (list_onto at (of_exprs (earlier ++ last ∷ [])) e) fs in (
+        wants (f ∷ fs),
+        step,
+        inr (ap is_end h.0),
+        tt,
+        subst (λ us. Passes (wants (f ∷ fs)) us (has (list_onto at all e) fs)) (sym cut.split)
+            (subst (λ us. Passes (wants (f ∷ fs)) (cut.front ++ cut.rest) (has (list_onto at us e) fs)) (ap of_exprs are ∙ exprs-of all)
+            (end_passes (wants (f ∷ fs)) z r.operand r.parts cut.front cut.rest token.close_bracket r.passes cut.later
+            (λ y i. close_step e r.operand r.parts f fs z y token.close_bracket (close_after pattern limit true token.close_bracket) here i refl refl) (open_inside e r.operand r.parts f fs here) tt)),
+      )
 
   -- the operator between two operands, and the right one
   infix_read : (at : ℕ) (o : FunOperator) (n : ℕ) (e g : FunExpr) (fs : List OpenPart) (xs ys zs : List FunSpan) → Reads (left_level (operator_binding o)) fs e ys → not pattern ≡ true → xs ≡ ys ++ zs → ArePieces (at_offset at (token.operator o) ∷ expr_pieces g) zs → is_infix o ≡ true → n ≤ level_of (operator_binding o) → Admits n fs
@@ -462,7 +467,7 @@ module _ (pattern : Bool) (limit : ℕ) where
         let sizes = and_parts (nat_le (length s) ATOM_LENGTH) (are_sized es) size in
         let first : fun_expr_step pattern limit true (wants fs) x ≡ Ok (has (atom at s) fs) = step_at (wants fs) (has (atom at s) fs) x at (token.atom s) h.0 (placed (may_stand pattern fs) true (nat_le (length s) ATOM_LENGTH) (has (atom at s) fs) st refl sizes.0) in
         let second : fun_expr_step pattern limit true (has (atom at s) fs) y ≡ Ok (wants (in_open_call at s [] ∷ fs)) =
-            step_of (has (atom at s) fs) (wants (in_open_call at s [] ∷ fs)) y token.open_paren h.1.0 (placed (not pattern) (has_level_left pattern limit true fs) true (wants (in_open_call at s [] ∷ fs)) np (level_left fs (greatest_nesting es) deep) refl) in
+        step_of (has (atom at s) fs) (wants (in_open_call at s [] ∷ fs)) y token.open_paren h.1.0 (placed (not pattern) (has_level_left pattern limit true fs) true (wants (in_open_call at s [] ∷ fs)) np (level_left fs (greatest_nesting es) deep) refl) in
         let cut = split_pieces (pieces_of es) (anywhere token.close_paren ∷ []) xs h.1.1 in
         let most = length (each_expr es) in
         let inner = arguments_read es at s fs cut.front cut.rest (first_reads es (in_open_call at s) fs most cut.front (call_has at s fs most) cut.first l (omega (arith, deep)) (omega arith) sizes.1 (any_patterns pattern es np)) cut.later in

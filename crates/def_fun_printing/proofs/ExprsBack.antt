@@ -397,11 +397,11 @@ module _ (d : Dialect) (part : Position) (ns : ClauseNames) where
       let plain = plain_call d part s (count ts) may in
       let n = length (each_expr fs) in
       let call : named_fun_call d part s n 0 ≡ Ok a_call =
-          ap (λ k. named_fun_call d part s k 0) r.counted
-          ∙ cond-false (is_among unsupported_names s) _ _ plain.supported
-          ∙ cond-false (is_object s && nat_le (count ts) 0) _ _ (and_left (is_object s) (nat_le (count ts) 0) plain.object)
-          ∙ cond-false (is_bindings s && nat_le (count ts) 0) _ _ (and_left (is_bindings s) (nat_le (count ts) 0) plain.bindings)
-          ∙ cond-true (may_call d part s (count ts)) _ _ may in
+      ap (λ k. named_fun_call d part s k 0) r.counted
+      ∙ cond-false (is_among unsupported_names s) _ _ plain.supported
+      ∙ cond-false (is_object s && nat_le (count ts) 0) _ _ (and_left (is_object s) (nat_le (count ts) 0) plain.object)
+      ∙ cond-false (is_bindings s && nat_le (count ts) 0) _ _ (and_left (is_bindings s) (nat_le (count ts) 0) plain.bindings)
+      ∙ cond-true (may_call d part s (count ts)) _ _ may in
       record {
         text = (h, r.text);
         bare = ap (tree.call 0 s) r.bare;

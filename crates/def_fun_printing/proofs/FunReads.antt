@@ -368,9 +368,9 @@ module _ (limit : ℕ) where
   parts_of a b h =
       elim (or_cases (is_variable_expr a && (is_variable_expr b || is_list_pattern b)) (is_list_pattern a && is_variable_expr b) h) [
         | inl x ↦
-          (let p = and_parts (is_variable_expr a) (is_variable_expr b || is_list_pattern b) x in
-          let second : IsPart (Some a) b = elim (or_cases (is_variable_expr b) (is_list_pattern b) p.1) [ inl y ↦ inl y | inr y ↦ inr (y, p.0) ] in
-          (inl p.0, second))
+            (let p = and_parts (is_variable_expr a) (is_variable_expr b || is_list_pattern b) x in
+            let second : IsPart (Some a) b = elim (or_cases (is_variable_expr b) (is_list_pattern b) p.1) [ inl y ↦ inl y | inr y ↦ inr (y, p.0) ] in
+            (inl p.0, second))
         | inr x ↦ (let p = and_parts (is_list_pattern a) (is_variable_expr b) x in (inr (p.0, refl), inl p.1))
       ]
 

@@ -134,7 +134,7 @@ fun_written d t ts us h =
     let begins : u ++ bytes ≡ 40 ∷ (b.after ++ bytes) = ap (λ z. z ++ bytes) b.begins in
     let zs = c.spans ++ (r.spans ++ x ∷ []) in
     let whole : Spans 0 (codes "fun" ++ (u ++ bytes)) (y ∷ zs) =
-        subst (λ z. Spans 0 (codes "fun" ++ z) (y ∷ zs)) (sym begins) (one_span 0 3 (codes "fun") (40 ∷ (b.after ++ bytes)) token.fun_word zs (fun_front (b.after ++ bytes)) refl (subst (λ z. Spans 3 z zs) begins c.tokens)) in
+    subst (λ z. Spans 0 (codes "fun" ++ z) (y ∷ zs)) (sym begins) (one_span 0 3 (codes "fun") (40 ∷ (b.after ++ bytes)) token.fun_word zs (fun_front (b.after ++ bytes)) refl (subst (λ z. Spans 3 z zs) begins c.tokens)) in
     let ks = c.clause ∷ r.clauses in
     let pieces : ArePieces (clauses_pieces ks) (c.spans ++ r.spans) = subst (λ ps. ArePieces ps (c.spans ++ r.spans)) (sym (joined_pieces c.clause r.clauses)) (pieces_joined (clause_pieces c.clause) (pieces_after r.clauses) c.spans r.spans c.pieces r.pieces) in
     record {
@@ -208,9 +208,9 @@ clauses_terms d (more t ts) ks earlier h short =
     let all_short : length (w (list_term (us ++ elements ts))) ≤ LENGTH = subst (λ vs. length (w (list_term vs)) ≤ LENGTH) (sym joined) short in
     let less = text_shorter us (elements ts) in
     let here : with_alternatives d k earlier (alternatives_of k.guards) ≡ Ok us =
-        ap (with_alternatives d k earlier) g.only
-        ∙ ap (λ z. then_fun z (λ x. then_fun (within_length k.at (earlier ++ x ∷ [])) (λ vs. Ok vs))) g.back
-        ∙ ap (λ z. then_fun z (λ vs. Ok vs)) (cond-true (nat_le (length (w (list_term us))) LENGTH) (Ok us) (Err (too_large_at k.at)) (le-leb (length (w (list_term us))) LENGTH (omega (arith, less, all_short)))) in
+    ap (with_alternatives d k earlier) g.only
+    ∙ ap (λ z. then_fun z (λ x. then_fun (within_length k.at (earlier ++ x ∷ [])) (λ vs. Ok vs))) g.back
+    ∙ ap (λ z. then_fun z (λ vs. Ok vs)) (cond-true (nat_le (length (w (list_term us))) LENGTH) (Ok us) (Err (too_large_at k.at)) (le-leb (length (w (list_term us))) LENGTH (omega (arith, less, all_short)))) in
     ap (with_fun_clauses d earlier) h.2 ∙ ap (λ z. then_fun z (λ vs. with_fun_clauses d vs h.1)) here ∙ clauses_terms d ts h.1 us h.4 all_short ∙ ap (λ vs. Ok vs) joined
 
 -- ---- the law
@@ -252,7 +252,7 @@ written_is_read d t ts text f size short spec_short =
     let fun_is : fun_of_text text ≡ Ok ks = cond-true (nat_le (length text) LENGTH) _ _ (le-leb (length text) LENGTH short) ∙ ap (read_or_refusal (length text)) read in
     let terms = elements-of (more t ts) in
     let tree_is : tree_of_fun d ks ≡ Ok (term.list (more t ts)) =
-        ap (λ z. then_fun z (λ us. Ok (list_term us))) (clauses_terms d (more t ts) ks [] f.good (subst (λ us. length (w (term.list us)) ≤ LENGTH) (sym terms) spec_short)) ∙ ap (λ us. Ok (term.list us)) terms in
+    ap (λ z. then_fun z (λ us. Ok (list_term us))) (clauses_terms d (more t ts) ks [] f.good (subst (λ us. length (w (term.list us)) ≤ LENGTH) (sym terms) spec_short)) ∙ ap (λ us. Ok (term.list us)) terms in
     ap (λ z. then_fun z (λ js. tree_of_fun d js)) fun_is ∙ tree_is
 
 pub printed_is_a_fun : (d : Dialect) (t : Tree) (s : Spec) (text : List ℕ) → spec_of d t ≡ Ok s → is_writable t ≡ true → Fits DEPTH true t → length (w t) ≤ LENGTH → fun_printed d t ≡ Ok text → length text ≤ LENGTH → spec_of_text d text ≡ Ok t

@@ -103,11 +103,12 @@ module _ (d : Dialect) where
       let body = body_goes ns n k.body c.0 m c.1 in
       let cs = of_elements b.0 in
       let bs = of_elements c.0 in
-      subst (λ x. (u : List ℕ) × (clause_printed d n x ≡ Ok u)) (same_term (triple a.0 (list_term b.0) (list_term c.0)) t c.2)
-      (_,
-      ap (λ z. then_clause (reason_at n the_head z) (λ p. then_clause (parts_printed d in_condition n the_condition 1 cs) (λ gs. then_clause (body_printed d n bs) (λ es. Ok (clause_text p gs es))))) head.1
-      ∙ ap (λ z. then_clause z (λ gs. then_clause (body_printed d n bs) (λ es. Ok (clause_text head.0 gs es)))) conditions.1
-      ∙ ap (λ z. then_clause z (λ es. Ok (clause_text head.0 conditions.0 es))) body.1)
+      subst (λ x. (u : List ℕ) × (clause_printed d n x ≡ Ok u)) (same_term (triple a.0 (list_term b.0) (list_term c.0)) t c.2) (
+        _,
+        ap (λ z. then_clause (reason_at n the_head z) (λ p. then_clause (parts_printed d in_condition n the_condition 1 cs) (λ gs. then_clause (body_printed d n bs) (λ es. Ok (clause_text p gs es))))) head.1
+            ∙ ap (λ z. then_clause z (λ gs. then_clause (body_printed d n bs) (λ es. Ok (clause_text head.0 gs es)))) conditions.1
+            ∙ ap (λ z. then_clause z (λ es. Ok (clause_text head.0 conditions.0 es))) body.1,
+      )
 
   length_by : (b : Bool) (at : ℕ) (ts us : List Tree) → ◌≡◌ {A = OrRefusal (List Tree)} (cond b (Ok ts) (Err (too_large_at at))) (Ok us) → ts ≡ us
   length_by true at ts us h = same_terms ts us h

@@ -38,10 +38,11 @@ parts_ok d part n p k (more t ts) us h =
     let a = clause_ok (reason_at n (p k) (expr_of_term d part t)) (λ x. then_clause (parts_printed d part n p (k + 1) ts) (λ xs. Ok (expr_text x ∷ xs))) us h in
     let b = clause_ok (parts_printed d part n p (k + 1) ts) (λ xs. Ok (expr_text a.0 ∷ xs)) us a.2 in
     let r = parts_ok d part n p (k + 1) ts b.0 b.1 in
-    let first = reason_ok n (p k) (expr_of_term d part t) a.0 a.1 in
-    (tree.more a.0 r.0,
-    ap (λ z. then_print z (λ e. then_print (exprs_of_terms d part ts) (λ es. Ok (tree.more e es)))) first ∙ ap (λ z. then_print z (λ es. Ok (tree.more a.0 es))) r.1,
-    sym (same_texts (expr_text a.0 ∷ b.0) us b.2) ∙ ap (λ vs. expr_text a.0 ∷ vs) r.2)
+    let first = reason_ok n (p k) (expr_of_term d part t) a.0 a.1 in (
+      tree.more a.0 r.0,
+      ap (λ z. then_print z (λ e. then_print (exprs_of_terms d part ts) (λ es. Ok (tree.more e es)))) first ∙ ap (λ z. then_print z (λ es. Ok (tree.more a.0 es))) r.1,
+      sym (same_texts (expr_text a.0 ∷ b.0) us b.2) ∙ ap (λ vs. expr_text a.0 ∷ vs) r.2,
+    )
 
 -- ---- a row as the parts of a node
 
@@ -104,6 +105,6 @@ row_terms d part ns (more t ts) fs cs (tree.more e es) h same low =
     let x : TranslatedExpr = record { becomes = t; constant = h.2 } in
     let here : expr_translated d part ns e ≡ Ok x = expr_alike d part ns e x (ap (expr_translated d part ns) (both.0 ∙ p.bare) ∙ p.back) in
     let first : part_term d part ns e ≡ Ok t =
-        ap (λ z. then_fun z (λ y. within_depth PART_DEPTH (first_byte e) y.becomes)) here ∙ cond-true (nat_le (depth t) PART_DEPTH) (Ok t) (Err (too_deep_at (first_byte e))) (le-leb (depth t) PART_DEPTH (omega (arith, low))) in
+    ap (λ z. then_fun z (λ y. within_depth PART_DEPTH (first_byte e) y.becomes)) here ∙ cond-true (nat_le (depth t) PART_DEPTH) (Ok t) (Err (too_deep_at (first_byte e))) (le-leb (depth t) PART_DEPTH (omega (arith, low))) in
     let later = row_terms d part ns ts h.1 h.3 es h.7 both.1 (omega (arith, low)) in
     ap (λ z. then_fun z (λ u. then_fun (part_terms d part ns (each_expr es)) (λ us. Ok (u ∷ us)))) first ∙ ap (λ z. then_fun z (λ us. Ok (t ∷ us))) later

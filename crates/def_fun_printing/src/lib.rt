@@ -9,5 +9,6 @@
 mod laws;
 
 pub use laws::{
-    a_fun_that_is_spelled_is_read, a_printed_fun_has_its_specification, the_specification_of_a_fun_is_printed,
+    a_fun_that_is_spelled_is_read, a_printed_fun_has_its_specification,
+    the_specification_of_a_fun_is_printed,
 };
