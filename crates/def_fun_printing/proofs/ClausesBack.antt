@@ -1,5 +1,5 @@
 -- The text of a clause spells a clause that is translated to the term.
-use Rattle.std.proofs.Common.{◌≡◌, ℕ, ◌+◌, ◌≤◌, max, nat_le, List, [], ◌∷◌, ◌++◌, length, true, false, ◌&&◌, None, Result, Ok, Err, codes, refl, ap, ap₂, sym, ◌∙◌, subst, arith, append_assoc, length-append}
+use Rattle.std.proofs.Common.{◌≡◌, ℕ, ◌+◌, ◌≤◌, max, nat_le, List, [], ◌∷◌, ◌++◌, length, true, false, ◌&&◌, None, Ok, Err, codes, refl, ap, ap₂, sym, ◌∙◌, subst, arith, append_assoc, length-append}
 use Rattle.std.proofs.lemmas.Bool.{and_parts, and_from, cond-true, le-leb}
 use Rattle.def_term.specs.Tree.{Tree, Trees, none, more, count, elements, of_elements, triple, depth, greatest_depth}
 use Rattle.def_term.specs.Tree as term
@@ -8,7 +8,7 @@ use Rattle.def_text.specs.Writable.{is_writable, are_writable}
 use Rattle.def_text.proofs.Complete.{elements-of}
 use Rattle.def_spec.specs.Expressions.{Dialect, in_condition, in_body}
 use Rattle.def_spec.specs.Outcome.{Clause}
-use Rattle.def_spec.specs.Reading.{SpecFault, badarg, Reads, then_read, head_of, exprs_of, clause_of_parts, clause_of}
+use Rattle.def_spec.specs.Reading.{badarg, head_of, exprs_of, clause_of_parts, clause_of}
 use Rattle.def_fun.specs.Trees as tree
 use Rattle.def_fun.specs.Trees.{FunExpr, FunExprs, each_expr, first_byte, nesting_depth, is_variable_expr, is_list_pattern, FunHead, alone, FunClause}
 use Rattle.def_fun.specs.Tokens as token
@@ -19,14 +19,15 @@ use Rattle.def_fun.specs.Limits.{FUN_DEPTH, is_sized, is_sized_row, are_sized_gu
 use Rattle.def_fun.specs.Refusals.{too_deep_at, then_fun}
 use Rattle.def_fun.specs.Variables.{names_of, variables_in, with_names}
 use Rattle.def_fun.specs.Translation.{HEAD_DEPTH, PART_DEPTH, within_depth, pattern_term, head_term, part_terms, list_term, alternative_term, alternatives_of}
-use Rattle.def_fun.specs.FunTexts.{OrReason, then_print, expr_of_term, NoFun, the_head, the_condition, the_expression, PrintedPattern, head_of_term, exprs_of_terms, reason_at, then_clause, joined_with, expr_text, expr_texts, parts_printed, when_text, body_printed, clause_of_parts_printed, clause_printed}
+use Rattle.def_fun.specs.FunTexts.{then_print, expr_of_term, the_head, the_condition, the_expression, PrintedPattern, head_of_term, exprs_of_terms, reason_at, then_clause, joined_with, expr_text, expr_texts, parts_printed, when_text, body_printed, clause_of_parts_printed, clause_printed}
 use Rattle.def_fun_printing.specs.HeadLevels.{is_level_head}
 use Rattle.def_fun_printing.proofs.Offsets.{unplaced, unplaced_each, level_same, nesting_same, sized_same, pattern_same, patterns_same, variables_same, pattern_alike}
 use Rattle.def_fun_printing.proofs.TextTokens.{Follows, follows_by, one_span, blank_before, open_paren_front, close_paren_front, arrow_front, when_front}
 use Rattle.def_fun_printing.proofs.ExprTexts.{HasText, HaveText, texts_of, joined_texts, pieces_joined, Spans, written, all_written}
 use Rattle.def_fun_printing.proofs.ExprsBack.{row_back, rows_of}
 use Rattle.def_fun_printing.proofs.HeadsBack.{names_to, names_up_to, head_back}
-use Rattle.def_fun_printing.proofs.RowsBack.{clause_ok, reason_ok, parts_ok, row_pieces, IsFineRow, fine_row, row_terms}
+use Rattle.def_fun_printing.proofs.RowsBack.{reason_ok, parts_ok, row_pieces, IsFineRow, fine_row, row_terms}
+use Rattle.def_fun_printing.proofs.Results.{same_ok, no_ok, print_ok, clause_ok, read_ok}
 
 -- the conditions as guards: one, or none where there are no conditions
 abbrev pub guards_of : FunExprs → List (List FunExpr)
@@ -224,13 +225,6 @@ head_terms e f t n same names back low =
     let here : pattern_term (names_of (alone e)) e ≡ Ok t = pattern_alike (names_of (alone e)) e t (ap₂ pattern_term names same ∙ back) in
     ap (λ z. then_fun z (λ u. within_depth HEAD_DEPTH (first_byte e) u)) here ∙ cond-true (nat_le (depth t) HEAD_DEPTH) (Ok t) (Err (too_deep_at (first_byte e))) (le-leb (depth t) HEAD_DEPTH low)
 
-read_ok : {X Y : Type 0} (r : Reads X) (f : X → Reads Y) (y : Y) → then_read r f ≡ Ok y → (x : X) × (r ≡ Ok x) × (f x ≡ Ok y)
-read_ok (Ok x) f y h = (x, refl, h)
-read_ok (Err e) f y h = absurd (cc)
-
-no_read : {A : Type 0} (r : SpecFault) (x : A) → ◌≡◌ {A = Reads A} (Err r) (Ok x) → ⊥
-no_read r x h = absurd (cc)
-
 -- what is printed of a head, of conditions and of a body
 record IsPrintedClause (d : Dialect) (h : Tree) (cs bs : Trees) (u : List ℕ) : Type 0 where
   pub head : PrintedPattern
@@ -242,21 +236,11 @@ record IsPrintedClause (d : Dialect) (h : Tree) (cs bs : Trees) (u : List ℕ) :
   pub some : has_one body ≡ true
   pub text : u ≡ parts_text (expr_text head.0) (guard_text conditions) (texts_of body)
 
-same_text : (u v : List ℕ) → ◌≡◌ {A = Result (List ℕ) NoFun} (Ok u) (Ok v) → u ≡ v
-same_text u v h = cc
-
-same_exprs : (es fs : FunExprs) → ◌≡◌ {A = OrReason FunExprs} (Ok es) (Ok fs) → es ≡ fs
-same_exprs es fs h = cc
-
-print_ok : {X Y : Type 0} (r : OrReason X) (f : X → OrReason Y) (y : Y) → then_print r f ≡ Ok y → (x : X) × (r ≡ Ok x) × (f x ≡ Ok y)
-print_ok (Ok x) f y h = (x, refl, h)
-print_ok (Err e) f y h = absurd (cc)
-
 some_printed : (d : Dialect) (t : Tree) (ts : Trees) (es : FunExprs) → exprs_of_terms d in_body (more t ts) ≡ Ok es → has_one es ≡ true
 some_printed d t ts es h =
     let a = print_ok (expr_of_term d in_body t) (λ e. then_print (exprs_of_terms d in_body ts) (λ xs. Ok (tree.more e xs))) es h in
     let b = print_ok (exprs_of_terms d in_body ts) (λ xs. Ok (tree.more a.0 xs)) es a.2 in
-    ap has_one (sym (same_exprs (tree.more a.0 b.0) es b.2))
+    ap has_one (sym (same_ok (tree.more a.0 b.0) es b.2))
 
 body_parts : (d : Dialect) (n : ℕ) (bs : Trees) (us : List (List ℕ)) → body_printed d n bs ≡ Ok us → (es : FunExprs) × (exprs_of_terms d in_body bs ≡ Ok es) × (us ≡ expr_texts es) × (has_one es ≡ true)
 body_parts d n none us h = absurd (cc)
@@ -279,7 +263,7 @@ printed_parts d n h cs bs u e =
       conditions_are = p.1;
       body_is = q.1;
       some = q.3;
-      text = sym (same_text _ u c.2) ∙ ap₂ (λ g b. parts_text (expr_text a.0.0) g b) (ap when_text p.2 ∙ when_is p.0) (ap (joined_with (codes ", ")) q.2 ∙ joined_texts q.0);
+      text = sym (same_ok _ u c.2) ∙ ap₂ (λ g b. parts_text (expr_text a.0.0) g b) (ap when_text p.2 ∙ when_is p.0) (ap (joined_with (codes ", ")) q.2 ∙ joined_texts q.0);
     }
 
 module _ (d : Dialect) (h : Tree) (cs bs : Trees) where
@@ -347,4 +331,4 @@ clause_back d n (term.tuple (more h (more (term.list cs) (more (term.list bs) no
     let s1 = and_parts (sizes_fit h) (sizes_fit (term.list cs) && (sizes_fit (term.list bs) && true)) s0.1 in
     let s2 = and_parts (sizes_fit (term.list cs)) (sizes_fit (term.list bs) && true) s1.1 in
     parts_back d h cs bs u k (printed_parts d n h cs bs u p) r w1.0 w2.0 (and_parts (are_writable bs) true w2.1).0 s1.0 s2.0 (and_parts (sizes_fit (term.list bs)) true s2.1).0 (omega (arith, low)) (omega (arith, low)) (omega (arith, low))
-clause_back d n t u k p r w s low = absurd (no_read badarg k r)
+clause_back d n t u k p r w s low = absurd (no_ok badarg k r)

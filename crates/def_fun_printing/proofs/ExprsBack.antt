@@ -15,7 +15,7 @@ use Rattle.def_text.specs.Tokens.{all_are, is_printable}
 use Rattle.def_text.specs.Writable.{is_writable, are_writable}
 use Rattle.def_spec.specs.Expressions.{Dialect, Position, Expr, Exprs}
 use Rattle.def_spec.specs.Matching.{Pattern, occurs}
-use Rattle.def_spec.specs.Reading.{SpecFault, badarg, Reads, then_read, AtomKind, a_variable, a_wrong_variable, a_plain_atom, atom_kind, is_wildcard, named_call, atom_expr_of_kind, is_constant, unsupported_names, expr_of, exprs_of}
+use Rattle.def_spec.specs.Reading.{badarg, AtomKind, a_variable, a_wrong_variable, a_plain_atom, atom_kind, is_wildcard, named_call, atom_expr_of_kind, is_constant, unsupported_names, expr_of, exprs_of}
 use Rattle.def_fun.specs.Operators as op
 use Rattle.def_fun.specs.Operators.{FunOperator, operator_name, operator_binding, level_of, left_level, right_level, PREFIX_LEVEL, is_infix, is_prefix}
 use Rattle.def_fun.specs.Trees as tree
@@ -28,39 +28,16 @@ use Rattle.def_fun.specs.Variables.{ClauseNames, ANY, dollar_name, anything_ther
 use Rattle.def_fun.specs.Constants.{Computation, not_computed, gives, gives_too_large, gives_any_truth, or_computed, truth_value, if_negation}
 use Rattle.def_fun.specs.Calls.{may_call, is_object, is_bindings, a_call, named_fun_call}
 use Rattle.def_fun.specs.Translation.{VARIABLES, variable_term, onto_tail, TranslatedExpr, no_constant, constant_as, begins_with_dollar, const_of, all_terms, with_constant, all_constants, constant_of, list_term, doubled_tuple, name_tuple, constants_onto, operator_translated, prefix_translated, computed_if_one, computed_if_two, call_translated, expr_translated, exprs_translated}
-use Rattle.def_fun.specs.FunTexts.{OrReason, NoFunReason, no_dollar_atom, no_other_const, no_such_call, is_computed, no_pid, then_print, numbered_variable, integer_expr, are_character_codes, character_code, is_text, string_expr, expr_level, in_level, first_changed, tuple_changed, with_string, with_string_in, infix_operators, prefix_operators, operator_named, PrintedCall, prints_between, prints_before, prints_call, prints_nothing, between_or, before_or, printed_call, would_compute, computation_of, value_unless, value_of_atom, has_list, have_list, value_in_fun, values_in_fun, operator_expr, operands_kept, atom_printed, const_printed, unless_computed, call_printed, expr_of_term, exprs_of_terms}
+use Rattle.def_fun.specs.FunTexts.{OrReason, no_dollar_atom, no_other_const, no_such_call, is_computed, no_pid, then_print, numbered_variable, integer_expr, are_character_codes, character_code, is_text, string_expr, expr_level, in_level, first_changed, tuple_changed, with_string, with_string_in, infix_operators, prefix_operators, operator_named, PrintedCall, prints_between, prints_before, prints_call, prints_nothing, between_or, before_or, printed_call, would_compute, computation_of, value_unless, value_of_atom, has_list, have_list, value_in_fun, values_in_fun, operator_expr, operands_kept, atom_printed, const_printed, unless_computed, call_printed, expr_of_term, exprs_of_terms}
 use Rattle.def_fun.proofs.NumberedNames.{same_name}
 use Rattle.def_fun.proofs.OpenParts.{lower_level, level_bounds}
 use Rattle.def_fun_printing.proofs.NumberAtoms.{number_digits, dollar_back}
 use Rattle.def_fun_printing.proofs.CallNames.{plain_call}
 use Rattle.def_fun_printing.proofs.Offsets.{unplaced, unplaced_each}
 use Rattle.def_fun_printing.proofs.ExprTexts.{HasText, HaveText}
+use Rattle.def_fun_printing.proofs.Results.{same_ok, no_ok, print_ok, read_ok, neither}
 
 -- ---- results
-
-same_expr : (e f : FunExpr) → ◌≡◌ {A = OrReason FunExpr} (Ok e) (Ok f) → e ≡ f
-same_expr e f h = cc
-
-same_exprs : (es fs : FunExprs) → ◌≡◌ {A = OrReason FunExprs} (Ok es) (Ok fs) → es ≡ fs
-same_exprs es fs h = cc
-
-no_print : {A : Type 0} (r : NoFunReason) (x : A) → ◌≡◌ {A = OrReason A} (Err r) (Ok x) → ⊥
-no_print r x h = absurd (cc)
-
-no_read : {A : Type 0} (r : SpecFault) (x : A) → ◌≡◌ {A = Reads A} (Err r) (Ok x) → ⊥
-no_read r x h = absurd (cc)
-
-print_ok : {X Y : Type 0} (r : OrReason X) (f : X → OrReason Y) (y : Y) → then_print r f ≡ Ok y → (x : X) × (r ≡ Ok x) × (f x ≡ Ok y)
-print_ok (Ok x) f y h = (x, refl, h)
-print_ok (Err e) f y h = absurd (cc)
-
-read_ok : {X Y : Type 0} (r : Reads X) (f : X → Reads Y) (y : Y) → then_read r f ≡ Ok y → (x : X) × (r ≡ Ok x) × (f x ≡ Ok y)
-read_ok (Ok x) f y h = (x, refl, h)
-read_ok (Err e) f y h = absurd (cc)
-
-neither : (a b : Bool) → (a || b) ≡ false → (a ≡ false) × (b ≡ false)
-neither true b h = absurd (let no : true ≡ false = h in cc)
-neither false b h = (refl, h)
 
 -- ---- operators by their names
 
@@ -115,7 +92,7 @@ is_before o = is_prefix o && not (is_infix o)
 
 unless_parts : (t : Tree) (b k : Bool) (r : OrReason FunExpr) (e : FunExpr) → unless_computed t b k r ≡ Ok e → (r ≡ Ok e) × (b ≡ true → k ≡ true)
 unless_parts t true true r e h = (h, λ x. refl)
-unless_parts t true false r e h = absurd (no_print (is_computed t) e h)
+unless_parts t true false r e h = absurd (no_ok (is_computed t) e h)
 unless_parts t false k r e h = (h, λ x. absurd (let no : false ≡ true = x in cc))
 
 not_by : (c : Computation) → would_compute c ≡ false → c ≡ not_computed
@@ -594,7 +571,7 @@ module _ (d : Dialect) (part : Position) (ns : ClauseNames) where
       let k = kept_by p ts a.0 b refl (rows a.0 a.1) u.1 in
       let parts = between_by (count ts == 2) (count ts == 1) (operator_named infix_operators s) (operator_named prefix_operators s) (may_call d part s (count ts)) o call in
       let name = named_is is_infix infix_operators s o refl parts.1 in
-      let is : operator_expr o k.exprs ≡ e = ap (operator_expr o) (sym k.are) ∙ same_expr _ e a.2 in
+      let is : operator_expr o k.exprs ≡ e = ap (operator_expr o) (sym k.are) ∙ same_ok _ e a.2 in
       leaf_as t (operator_expr o k.exprs) e is
       (leaf_of t (operator_expr o k.exprs) None (two_back o s ts k.exprs k.constants name.0 name.1 (eqb-true (count ts) 2 parts.0) k.back k.none) (value_of_call s ts p const call ∙ no_value_by p ts b refl u.1) refl (operator_leaf o k.exprs))
   called s ts e (prints_before o) const call w z rows h =
@@ -606,7 +583,7 @@ module _ (d : Dialect) (part : Position) (ns : ClauseNames) where
       let k = kept_by p ts a.0 b refl (rows a.0 a.1) u.1 in
       let parts = before_parts (count ts == 2) (count ts == 1) (operator_named infix_operators s) (operator_named prefix_operators s) (may_call d part s (count ts)) o call in
       let name = named_is is_before prefix_operators s o refl parts.1 in
-      let is : operator_expr o k.exprs ≡ e = ap (operator_expr o) (sym k.are) ∙ same_expr _ e a.2 in
+      let is : operator_expr o k.exprs ≡ e = ap (operator_expr o) (sym k.are) ∙ same_ok _ e a.2 in
       leaf_as t (operator_expr o k.exprs) e is
       (leaf_of t (operator_expr o k.exprs) None (one_back o s ts k.exprs k.constants name.0 name.1 (eqb-true (count ts) 1 parts.0) k.back k.none) (value_of_call s ts p const call ∙ no_value_by p ts b refl u.1) refl (operator_leaf o k.exprs))
   called s ts e prints_call const call w z rows h =
@@ -614,13 +591,13 @@ module _ (d : Dialect) (part : Position) (ns : ClauseNames) where
       let a = print_ok (exprs_of_terms d part ts) (λ fs. Ok (tree.call 0 s fs)) e h in
       let may = call_by (count ts == 2) (count ts == 1) (operator_named infix_operators s) (operator_named prefix_operators s) (may_call d part s (count ts)) call in
       let r = row_back ts a.0 (values_of ts) (rows a.0 a.1).back in
-      leaf_as t (tree.call 0 s a.0) e (same_expr _ e a.2)
+      leaf_as t (tree.call 0 s a.0) e (same_ok _ e a.2)
       (leaf_of t (tree.call 0 s a.0) None (call_back s ts a.0 (values_of ts) may w z r) (value_of_call s ts prints_call const call ∙ unless_not (have_list ts)) refl refl)
-  called s ts e prints_nothing const call w z rows h = absurd (no_print (no_such_call s (count ts)) e h)
+  called s ts e prints_nothing const call w z rows h = absurd (no_ok (no_such_call s (count ts)) e h)
 
   const_by : (a : Name) (b : Bool) (t : Tree) (e : FunExpr) → begins_with_dollar a ≡ b → cond b (Ok (tree.atom 0 a)) (Err (no_other_const t)) ≡ Ok e → (b ≡ true) × (tree.atom 0 a ≡ e)
-  const_by a true t e g h = (refl, same_expr (tree.atom 0 a) e h)
-  const_by a false t e g h = absurd (no_print (no_other_const t) e h)
+  const_by a true t e g h = (refl, same_ok (tree.atom 0 a) e h)
+  const_by a false t e g h = absurd (no_ok (no_other_const t) e h)
 
   const_of_atom : (s : Name) (ts : Trees) (e : FunExpr) → bytes_eq s (codes "const") ≡ true → are_writable ts ≡ true → all_sizes_fit ts ≡ true → const_printed (term.tuple (term.more (term.atom s) ts)) ts ≡ Ok e → BackOf (term.tuple (term.more (term.atom s) ts)) e
   const_of_atom s (term.more (term.atom a) term.none) e is w z h =
@@ -631,12 +608,12 @@ module _ (d : Dialect) (part : Position) (ns : ClauseNames) where
       let name : codes "const" ≡ s = sym (same_name s (codes "const") is) in
       let back = subst (λ x. IsBack (term.tuple (term.more (term.atom x) (term.more (term.atom a) term.none))) (tree.atom 0 a) (Some (term.atom a))) name (const_back a text size q.0) in
       leaf_as t (tree.atom 0 a) e q.1 (leaf_of t (tree.atom 0 a) (Some (term.atom a)) back (cond-true (bytes_eq s (codes "const")) _ _ is) refl refl)
-  const_of_atom s term.none e is w z h = absurd (no_print (no_other_const _) e h)
-  const_of_atom s (term.more (term.int n) ts) e is w z h = absurd (no_print (no_other_const _) e h)
-  const_of_atom s (term.more (term.pid n) ts) e is w z h = absurd (no_print (no_other_const _) e h)
-  const_of_atom s (term.more (term.tuple us) ts) e is w z h = absurd (no_print (no_other_const _) e h)
-  const_of_atom s (term.more (term.list us) ts) e is w z h = absurd (no_print (no_other_const _) e h)
-  const_of_atom s (term.more (term.atom a) (term.more u ts)) e is w z h = absurd (no_print (no_other_const _) e h)
+  const_of_atom s term.none e is w z h = absurd (no_ok (no_other_const _) e h)
+  const_of_atom s (term.more (term.int n) ts) e is w z h = absurd (no_ok (no_other_const _) e h)
+  const_of_atom s (term.more (term.pid n) ts) e is w z h = absurd (no_ok (no_other_const _) e h)
+  const_of_atom s (term.more (term.tuple us) ts) e is w z h = absurd (no_ok (no_other_const _) e h)
+  const_of_atom s (term.more (term.list us) ts) e is w z h = absurd (no_ok (no_other_const _) e h)
+  const_of_atom s (term.more (term.atom a) (term.more u ts)) e is w z h = absurd (no_ok (no_other_const _) e h)
 
   named_of : (s : Name) (ts : Trees) (e : FunExpr) (b : Bool) → bytes_eq s (codes "const") ≡ b → is_writable (term.tuple (term.more (term.atom s) ts)) ≡ true → sizes_fit (term.tuple (term.more (term.atom s) ts)) ≡ true → (b ≡ false → RowsOf ts)
       → cond b (const_printed (term.tuple (term.more (term.atom s) ts)) ts) (call_printed (printed_call d part s (count ts)) s (term.tuple (term.more (term.atom s) ts)) ts (would_compute (computation_of (printed_call d part s (count ts)) (values_in_fun d part ts))) (exprs_of_terms d part ts)) ≡ Ok e
@@ -655,20 +632,20 @@ module _ (d : Dialect) (part : Position) (ns : ClauseNames) where
   plain_of : (s : Name) (e : FunExpr) (w o b g : Bool) → variable_kind ns ANY ≡ anything_there → is_wildcard s ≡ w → bytes_eq s (codes "$_") ≡ o → bytes_eq s (codes "$*") ≡ b → begins_with_dollar s ≡ g → atom_kind s ≡ a_plain_atom → all_are is_printable s ≡ true → nat_le (length s) 255 ≡ true
       → cond w (Ok (tree.variable 0 ANY)) (cond o (Ok (tree.call 0 (codes "object") tree.none)) (cond b (Ok (tree.call 0 (codes "bindings") tree.none)) (cond g (Err (no_dollar_atom s)) (Ok (tree.atom 0 s))))) ≡ Ok e → BackOf (term.atom s) e
   plain_of s e true o b g any is_w is_o is_b is_g kind text size h =
-      leaf_as (term.atom s) (tree.variable 0 ANY) e (same_expr _ e h)
+      leaf_as (term.atom s) (tree.variable 0 ANY) e (same_ok _ e h)
       (leaf_of (term.atom s) (tree.variable 0 ANY) None (subst (λ x. IsBack (term.atom x) (tree.variable 0 ANY) None) (sym (same_name s (codes "_") is_w)) (any_back any))
       (ap (value_of_atom s) kind ∙ cond-true (is_wildcard s || begins_with_dollar s) None (Some (term.atom s)) (ap (λ x. x || begins_with_dollar s) is_w)) refl refl)
   plain_of s e false true b g any is_w is_o is_b is_g kind text size h =
       let name = same_name s (codes "$_") is_o in
-      leaf_as (term.atom s) (tree.call 0 (codes "object") tree.none) e (same_expr _ e h)
+      leaf_as (term.atom s) (tree.call 0 (codes "object") tree.none) e (same_ok _ e h)
       (leaf_of (term.atom s) (tree.call 0 (codes "object") tree.none) None (subst (λ x. IsBack (term.atom x) (tree.call 0 (codes "object") tree.none) None) (sym name) object_back) (ap (λ x. value_of_atom x (atom_kind x)) name) refl refl)
   plain_of s e false false true g any is_w is_o is_b is_g kind text size h =
       let name = same_name s (codes "$*") is_b in
-      leaf_as (term.atom s) (tree.call 0 (codes "bindings") tree.none) e (same_expr _ e h)
+      leaf_as (term.atom s) (tree.call 0 (codes "bindings") tree.none) e (same_ok _ e h)
       (leaf_of (term.atom s) (tree.call 0 (codes "bindings") tree.none) None (subst (λ x. IsBack (term.atom x) (tree.call 0 (codes "bindings") tree.none) None) (sym name) bindings_back) (ap (λ x. value_of_atom x (atom_kind x)) name) refl refl)
-  plain_of s e false false false true any is_w is_o is_b is_g kind text size h = absurd (no_print (no_dollar_atom s) e h)
+  plain_of s e false false false true any is_w is_o is_b is_g kind text size h = absurd (no_ok (no_dollar_atom s) e h)
   plain_of s e false false false false any is_w is_o is_b is_g kind text size h =
-      leaf_as (term.atom s) (tree.atom 0 s) e (same_expr _ e h)
+      leaf_as (term.atom s) (tree.atom 0 s) e (same_ok _ e h)
       (leaf_of (term.atom s) (tree.atom 0 s) (Some (term.atom s)) (atom_back s text size is_g) (ap (value_of_atom s) kind ∙ cond-false (is_wildcard s || begins_with_dollar s) None (Some (term.atom s)) (ap₂ (λ x y. x || y) is_w is_g)) refl refl)
 
   -- the list of an operand is kept by ""
@@ -681,26 +658,26 @@ module _ (d : Dialect) (part : Position) (ns : ClauseNames) where
   module _ (head : Pattern) (any : variable_kind ns ANY ≡ anything_there) (bound : (k : ℕ) → occurs k head ≡ true → variable_kind ns (codes "X" ++ decimal k) ≡ of_number k) where
     occurs_by : (b : Bool) (x ex : Expr) → cond b (Ok x) (Err badarg) ≡ Ok ex → b ≡ true
     occurs_by true x ex h = refl
-    occurs_by false x ex h = absurd (no_read badarg ex h)
+    occurs_by false x ex h = absurd (no_ok badarg ex h)
 
     kind_of : (s : Name) (e : FunExpr) (ex : Expr) (k : AtomKind) → atom_kind s ≡ k → all_are is_printable s ≡ true → nat_le (length s) 255 ≡ true → atom_printed s k ≡ Ok e → atom_expr_of_kind head s k ≡ Ok ex → BackOf (term.atom s) e
     kind_of s e ex (a_variable k) kind text size h r =
         let q = dollar_back s k kind in
         let there = occurs_by (occurs k head) _ ex r in
-        leaf_as (term.atom s) (numbered_variable k) e (same_expr _ e h)
+        leaf_as (term.atom s) (numbered_variable k) e (same_ok _ e h)
         (leaf_of (term.atom s) (numbered_variable k) None (subst (λ x. IsBack (term.atom x) (numbered_variable k) None) (sym q.0) (number_back k q.1 (bound k there))) (ap (value_of_atom s) kind) refl refl)
-    kind_of s e ex a_wrong_variable kind text size h r = absurd (no_read badarg ex r)
+    kind_of s e ex a_wrong_variable kind text size h r = absurd (no_ok badarg ex r)
     kind_of s e ex a_plain_atom kind text size h r = plain_of s e (is_wildcard s) (bytes_eq s (codes "$_")) (bytes_eq s (codes "$*")) (begins_with_dollar s) any refl refl refl refl kind text size h
 
     -- ---- lists and tuples
 
     list_of : (ts : Trees) (e : FunExpr) (b : Bool) → is_text ts ≡ b → nat_le (count ts) LIST_LENGTH ≡ true → RowsOf ts → cond b (Ok (string_expr ts)) (then_print (exprs_of_terms d part ts) (λ es. Ok (tree.list 0 es))) ≡ Ok e → BackOf (term.list ts) e
     list_of ts e true text size rows h =
-        leaf_as (term.list ts) (string_expr ts) e (same_expr _ e h) (leaf_of (term.list ts) (string_expr ts) None (string_back ts text size) (cond-true (is_text ts) None _ text) (ap not text) refl)
+        leaf_as (term.list ts) (string_expr ts) e (same_ok _ e h) (leaf_of (term.list ts) (string_expr ts) None (string_back ts text size) (cond-true (is_text ts) None _ text) (ap not text) refl)
     list_of ts e false text size rows h =
         let a = print_ok (exprs_of_terms d part ts) (λ es. Ok (tree.list 0 es)) e h in
         let r = rows a.0 a.1 in
-        leaf_as (term.list ts) (tree.list 0 a.0) e (same_expr _ e a.2)
+        leaf_as (term.list ts) (tree.list 0 a.0) e (same_ok _ e a.2)
         (record {
           back = subst (IsBack (term.list ts) (tree.list 0 a.0)) (ap (constant_of list_term) (values_same ts) ∙ sym (cond-false (is_text ts) None _ text)) (list_back ts a.0 (values_of ts) size (row_back ts a.0 (values_of ts) r.back));
           keeps = λ l. list_kept ts a.0 (values_of ts) size r.back;
@@ -726,9 +703,9 @@ module _ (d : Dialect) (part : Position) (ns : ClauseNames) where
     mutual
       -- each term is that of its expression
       pub back_of : (t : Tree) (e : FunExpr) (ex : Expr) → expr_of_term d part t ≡ Ok e → expr_of d part head t ≡ Ok ex → is_writable t ≡ true → sizes_fit t ≡ true → BackOf t e
-      back_of (term.int z) e ex h r w s = leaf_as (term.int z) (integer_expr (term.int z)) e (same_expr _ e h) (leaf_of (term.int z) (integer_expr (term.int z)) (Some (term.int z)) (int_back z s) refl refl (int_leaf z))
+      back_of (term.int z) e ex h r w s = leaf_as (term.int z) (integer_expr (term.int z)) e (same_ok _ e h) (leaf_of (term.int z) (integer_expr (term.int z)) (Some (term.int z)) (int_back z s) refl refl (int_leaf z))
       back_of (term.atom a) e ex h r w s = kind_of a e ex (atom_kind a) refl w s h r
-      back_of (term.pid n) e ex h r w s = absurd (no_print (no_pid n) e h)
+      back_of (term.pid n) e ex h r w s = absurd (no_ok (no_pid n) e h)
       back_of (term.list ts) e ex h r w s =
           let sizes = and_parts (nat_le (count ts) LIST_LENGTH) (all_sizes_fit ts) s in
           let a = read_ok (exprs_of d part head ts) _ ex r in
@@ -738,16 +715,16 @@ module _ (d : Dialect) (part : Position) (ns : ClauseNames) where
           let sizes = and_parts (nat_le (count ts) 255) (all_sizes_fit ts) inner.0 in
           let b = print_ok (exprs_of_terms d part ts) (λ es. Ok (tree.tuple 0 es)) e h in
           let a = read_ok (exprs_of d part head ts) _ ex r in
-          leaf_as (term.tuple (term.more (term.tuple ts) term.none)) (tree.tuple 0 b.0) e (same_expr _ e b.2) (tuple_of ts b.0 sizes.0 (rows_of ts b.0 a.0 b.1 a.1 (and_parts (are_writable ts) true w).0 sizes.1))
+          leaf_as (term.tuple (term.more (term.tuple ts) term.none)) (tree.tuple 0 b.0) e (same_ok _ e b.2) (tuple_of ts b.0 sizes.0 (rows_of ts b.0 a.0 b.1 a.1 (and_parts (are_writable ts) true w).0 sizes.1))
       back_of (term.tuple (term.more (term.atom a) ts)) e ex h r w s =
           let p = and_parts (all_are is_printable a) (are_writable ts) w in
           let q = and_parts (nat_le (count ts + 1) 255) (nat_le (length a) 255 && all_sizes_fit ts) s in
           named_of a ts e (bytes_eq a (codes "const")) refl w s
           (λ is es k. let exs = call_read a ts ex is r in rows_of ts es exs.0 k exs.1 p.1 (and_parts (nat_le (length a) 255) (all_sizes_fit ts) q.1).1) h
-      back_of (term.tuple ts) e ex h r w s = absurd (no_print _ e h)
+      back_of (term.tuple ts) e ex h r w s = absurd (no_ok _ e h)
 
       pub rows_of : (ts : Trees) (es : FunExprs) (exs : Exprs) → exprs_of_terms d part ts ≡ Ok es → exprs_of d part head ts ≡ Ok exs → are_writable ts ≡ true → all_sizes_fit ts ≡ true → RowOf ts es
-      rows_of term.none es exs h r w s = subst (RowOf term.none) (same_exprs tree.none es h) (record { back = (refl, refl); keeps = λ l. absurd (let no : false ≡ true = l in cc); leaves = λ l. refl })
+      rows_of term.none es exs h r w s = subst (RowOf term.none) (same_ok tree.none es h) (record { back = (refl, refl); keeps = λ l. absurd (let no : false ≡ true = l in cc); leaves = λ l. refl })
       rows_of (term.more t ts) es exs h r w s =
           let writable = and_parts (is_writable t) (are_writable ts) w in
           let sizes = and_parts (sizes_fit t) (all_sizes_fit ts) s in
@@ -755,4 +732,4 @@ module _ (d : Dialect) (part : Position) (ns : ClauseNames) where
           let b = print_ok (exprs_of_terms d part ts) (λ xs. Ok (tree.more a.0 xs)) es a.2 in
           let c = read_ok (expr_of d part head t) _ exs r in
           let f = read_ok (exprs_of d part head ts) _ exs c.2 in
-          subst (RowOf (term.more t ts)) (same_exprs (tree.more a.0 b.0) es b.2) (more_of t ts a.0 b.0 (has_list t) refl (back_of t a.0 c.0 a.1 c.1 writable.0 sizes.0) (rows_of ts b.0 f.0 b.1 f.1 writable.1 sizes.1))
+          subst (RowOf (term.more t ts)) (same_ok (tree.more a.0 b.0) es b.2) (more_of t ts a.0 b.0 (has_list t) refl (back_of t a.0 c.0 a.1 c.1 writable.0 sizes.0) (rows_of ts b.0 f.0 b.1 f.1 writable.1 sizes.1))

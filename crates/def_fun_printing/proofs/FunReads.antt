@@ -8,9 +8,10 @@ use Rattle.def_fun.specs.Tokens.{FunToken, FunSpan}
 use Rattle.def_fun.specs.Trees.{FunExpr, variable, list, list_onto, nesting_depth, is_pattern, is_variable_expr, is_list_pattern, FunHead, alone, both, FunClause}
 use Rattle.def_fun.specs.Grammar.{anywhere, ArePieces, expr_pieces, has_level, is_fun_head, head_pieces, comma_pieces, guard_pieces, when_pieces, clause_pieces, clauses_pieces, fun_pieces, are_exprs, are_guards, is_fun_clause, are_fun_clauses, DerivesFun}
 use Rattle.def_fun.specs.Limits.{CLAUSES, is_sized, each_sized, is_sized_row, are_sized_guards, is_sized_head, is_sized_clause, are_sized_clauses, clause_count, spec_clauses, head_nesting, row_nesting, guards_nesting, clauses_nesting, FunFits}
-use Rattle.def_fun.specs.Reading.{ExprState, wants, has, fun_expr_step, if_none_open, ended_expr, ClauseSoFar, FunState, before_fun, before_clause, in_head, after_head, in_guard, in_fun_body, after_end, after_stop, head_of_parts, begins_head, clauses_in_guard, clauses_in_body, with_guard, with_clause, if_sized, on_step, expr_start, begin_fun, begin_clause, begin_guard, stop_fun, FunFault, head_after, guard_after, body_after, ends_or, head_step, fun_step, after_fun_step, fun_run, fun_finish, read_fun}
+use Rattle.def_fun.specs.Reading.{ExprState, wants, has, fun_expr_step, if_none_open, ended_expr, ClauseSoFar, FunState, before_fun, before_clause, in_head, after_head, in_guard, in_fun_body, after_end, after_stop, head_of_parts, begins_head, clauses_in_guard, clauses_in_body, with_guard, with_clause, if_sized, on_step, expr_start, begin_fun, begin_clause, begin_guard, stop_fun, head_after, guard_after, body_after, ends_or, head_step, fun_step, after_fun_step, fun_run, fun_finish, read_fun}
 use Rattle.def_fun_printing.specs.HeadLevels.{is_level_head, are_level_heads}
 use Rattle.def_fun_printing.proofs.ExprReads.{split_pieces, is_end, GoesOn, IsWithin, sized_in, stands_in, Passes, Reads, expr_reads}
+use Rattle.def_fun_printing.proofs.Results.{same_ok}
 
 -- ---- sizes and levels
 
@@ -31,11 +32,11 @@ each_level [] h = tt
 each_level (e ∷ []) h = (h, tt)
 each_level (e ∷ f ∷ es) h = let p = and_parts (has_level 1 e) (are_exprs (f ∷ es)) h in (p.0, each_level (f ∷ es) p.1)
 
-abbrev EachClause : List FunClause → Type 0
+abbrev pub EachClause : List FunClause → Type 0
 EachClause [] = Unit {0}
 EachClause (k ∷ ks) = (is_fun_clause k ≡ true) × EachClause ks
 
-each_clause : (ks : List FunClause) → are_fun_clauses ks ≡ true → EachClause ks
+pub each_clause : (ks : List FunClause) → are_fun_clauses ks ≡ true → EachClause ks
 each_clause [] h = tt
 each_clause (k ∷ []) h = (h, tt)
 each_clause (k ∷ l ∷ ks) h = let p = and_parts (is_fun_clause k) (are_fun_clauses (l ∷ ks)) h in (p.0, each_clause (l ∷ ks) p.1)
@@ -498,8 +499,5 @@ module _ (limit : ℕ) where
         | inr h ↦ (let cut = split_pieces (fun_pieces ks) (anywhere token.full_stop ∷ []) ts h in stop_reads ks ts cut.front cut.rest (fun_reads ks cut.front cut.rest cut.first d.clauses l fits) cut.split cut.later)
       ]
 
-same_read : (ks ls : List FunClause) → ◌≡◌ {A = Result (List FunClause) FunFault} (Ok ks) (Ok ls) → ks ≡ ls
-same_read ks ls h = cc
-
 pub derived_is_one : (limit : ℕ) (ts : List FunSpan) (ks ls : List FunClause) → DerivesFun ts ks → are_level_heads ks ≡ true → FunFits limit true ks → DerivesFun ts ls → are_level_heads ls ≡ true → FunFits limit true ls → ks ≡ ls
-derived_is_one limit ts ks ls d l fits e m more = same_read ks ls (sym (derived_is_read limit ts ks d l fits) ∙ derived_is_read limit ts ls e m more)
+derived_is_one limit ts ks ls d l fits e m more = same_ok ks ls (sym (derived_is_read limit ts ks d l fits) ∙ derived_is_read limit ts ls e m more)

@@ -1,5 +1,5 @@
 -- The text that a specification is printed as is a fun that has it.
-use Rattle.std.proofs.Common.{◌≡◌, ℕ, ◌+◌, ◌≤◌, nat_le, List, [], ◌∷◌, ◌++◌, length, Bool, true, false, cond, Result, Ok, Err, codes, refl, ap, sym, ◌∙◌, subst, arith, append_assoc, append-nil, length-append, inl}
+use Rattle.std.proofs.Common.{◌≡◌, ℕ, ◌+◌, ◌≤◌, nat_le, List, [], ◌∷◌, ◌++◌, length, Bool, true, false, cond, Ok, Err, codes, refl, ap, sym, ◌∙◌, subst, arith, append_assoc, append-nil, length-append, inl}
 use Rattle.std.proofs.lemmas.Bool.{and_parts, and_from, cond-true, le-leb, leb-true}
 use Rattle.def_term.specs.Tree.{Tree, Trees, none, more, count, elements, of_elements, depth, greatest_depth}
 use Rattle.def_term.specs.Tree as term
@@ -10,7 +10,7 @@ use Rattle.def_text.specs.Writable.{is_writable, are_writable}
 use Rattle.def_text.proofs.Complete.{elements-of}
 use Rattle.def_spec.specs.Expressions.{Dialect}
 use Rattle.def_spec.specs.Outcome.{Clause, Spec}
-use Rattle.def_spec.specs.Reading.{SpecFault, badarg, Reads, then_read, clause_of, clauses_of, spec_of}
+use Rattle.def_spec.specs.Reading.{badarg, then_read, clause_of, clauses_of, spec_of}
 use Rattle.def_fun.specs.Trees.{FunExpr, FunClause}
 use Rattle.def_fun.specs.Tokens as token
 use Rattle.def_fun.specs.Tokens.{FunSpan, FunTokens}
@@ -21,7 +21,7 @@ use Rattle.def_fun.specs.Reading.{read_fun}
 use Rattle.def_fun.specs.Refusals.{too_long, too_large_at, OrRefusal, then_fun}
 use Rattle.def_fun.specs.Translation.{list_term, alternative_term, alternatives_of, within_length, with_alternatives, with_fun_clauses, tree_of_fun}
 use Rattle.def_fun.specs.Answers.{read_or_refusal, fun_of_text, spec_of_text}
-use Rattle.def_fun.specs.FunTexts.{NoFun, then_clause, joined_with, clause_printed, clauses_printed, CLAUSE_BREAK, fun_text, fun_printed}
+use Rattle.def_fun.specs.FunTexts.{then_clause, joined_with, clause_printed, clauses_printed, CLAUSE_BREAK, fun_text, fun_printed}
 use Rattle.def_fun.proofs.TokenSound.{same_fun_tokens}
 use Rattle.def_fun.proofs.TokenLists.{listed_are}
 use Rattle.def_fun.proofs.Translations.{then_ok}
@@ -29,8 +29,8 @@ use Rattle.def_fun_printing.specs.HeadLevels.{is_level_head, are_level_heads}
 use Rattle.def_fun_printing.proofs.TextTokens.{Follows, follows_by, one_span, blank_before, semicolon_front, fun_front, end_front}
 use Rattle.def_fun_printing.proofs.ExprTexts.{pieces_joined, Spans}
 use Rattle.def_fun_printing.proofs.FunReads.{derived_is_read}
-use Rattle.def_fun_printing.proofs.RowsBack.{clause_ok}
 use Rattle.def_fun_printing.proofs.ClausesBack.{IsGoodClause, IsClauseBack, clause_back}
+use Rattle.def_fun_printing.proofs.Results.{same_ok, no_ok, clause_ok, read_ok}
 
 -- ---- texts and tokens of clauses
 
@@ -215,21 +215,8 @@ clauses_terms d (more t ts) ks earlier h short =
 
 -- ---- the law
 
-read_ok : {X Y : Type 0} (r : Reads X) (f : X → Reads Y) (y : Y) → then_read r f ≡ Ok y → (x : X) × (r ≡ Ok x) × (f x ≡ Ok y)
-read_ok (Ok x) f y h = (x, refl, h)
-read_ok (Err e) f y h = absurd (cc)
-
-no_read : {A : Type 0} (r : SpecFault) (x : A) → ◌≡◌ {A = Reads A} (Err r) (Ok x) → ⊥
-no_read r x h = absurd (cc)
-
-same_texts : (us vs : List (List ℕ)) → ◌≡◌ {A = Result (List (List ℕ)) NoFun} (Ok us) (Ok vs) → us ≡ vs
-same_texts us vs h = cc
-
-same_text : (u v : List ℕ) → ◌≡◌ {A = Result (List ℕ) NoFun} (Ok u) (Ok v) → u ≡ v
-same_text u v h = cc
-
 each_back : (d : Dialect) (n : ℕ) (ts : Trees) (us : List (List ℕ)) (ks : List Clause) → clauses_printed d n ts ≡ Ok us → clauses_of d ts ≡ Ok ks → are_writable ts ≡ true → all_sizes_fit ts ≡ true → greatest_depth ts ≤ 31 → EachBack d ts us
-each_back d n none us ks p r v s low = sym (same_texts [] us p)
+each_back d n none us ks p r v s low = sym (same_ok [] us p)
 each_back d n (more t ts) us ks p r v s low =
     let writable = and_parts (is_writable t) (are_writable ts) v in
     let sizes = and_parts (sizes_fit t) (all_sizes_fit ts) s in
@@ -237,7 +224,7 @@ each_back d n (more t ts) us ks p r v s low =
     let b = clause_ok (clauses_printed d (n + 1) ts) (λ xs. Ok (a.0 ∷ xs)) us a.2 in
     let c = read_ok (clause_of d t) (λ k. then_read (clauses_of d ts) (λ xs. Ok (k ∷ xs))) ks r in
     let e = read_ok (clauses_of d ts) (λ xs. Ok (c.0 ∷ xs)) ks c.2 in
-    (a.0, b.0, sym (same_texts (a.0 ∷ b.0) us b.2), clause_back d n t a.0 c.0 a.1 c.1 writable.0 sizes.0 (omega (arith, low)), each_back d (n + 1) ts b.0 e.0 b.1 e.1 writable.1 sizes.1 (omega (arith, low)))
+    (a.0, b.0, sym (same_ok (a.0 ∷ b.0) us b.2), clause_back d n t a.0 c.0 a.1 c.1 writable.0 sizes.0 (omega (arith, low)), each_back d (n + 1) ts b.0 e.0 b.1 e.1 writable.1 sizes.1 (omega (arith, low)))
 
 written_is_read : (d : Dialect) (t : Tree) (ts : Trees) (text : List ℕ) → IsFunWritten d (more t ts) text → nat_le (count (more t ts)) LIST_LENGTH ≡ true → length text ≤ LENGTH → length (w (term.list (more t ts))) ≤ LENGTH → spec_of_text d text ≡ Ok (term.list (more t ts))
 written_is_read d t ts text f size short spec_short =
@@ -262,35 +249,29 @@ printed_is_a_fun d (term.list (more t ts)) s text r v fits spec_short p short =
     let sizes = and_parts (nat_le (count (more t ts)) LIST_LENGTH) (all_sizes_fit (more t ts)) fits.sizes in
     let nests = fits.nests in
     let back = each_back d 1 (more t ts) a.0 c.0 a.1 c.1 v sizes.1 (omega (arith, nests)) in
-    let is = same_text (fun_text a.0) text a.2 in
+    let is = same_ok (fun_text a.0) text a.2 in
     written_is_read d t ts text (subst (IsFunWritten d (more t ts)) is (fun_written d t ts a.0 back)) sizes.0 short spec_short
-printed_is_a_fun d (term.list none) s text r v fits spec_short p short = absurd (no_read badarg s r)
-printed_is_a_fun d (term.int z) s text r v fits spec_short p short = absurd (no_read badarg s r)
-printed_is_a_fun d (term.atom a) s text r v fits spec_short p short = absurd (no_read badarg s r)
-printed_is_a_fun d (term.pid n) s text r v fits spec_short p short = absurd (no_read badarg s r)
-printed_is_a_fun d (term.tuple ts) s text r v fits spec_short p short = absurd (no_read badarg s r)
+printed_is_a_fun d (term.list none) s text r v fits spec_short p short = absurd (no_ok badarg s r)
+printed_is_a_fun d (term.int z) s text r v fits spec_short p short = absurd (no_ok badarg s r)
+printed_is_a_fun d (term.atom a) s text r v fits spec_short p short = absurd (no_ok badarg s r)
+printed_is_a_fun d (term.pid n) s text r v fits spec_short p short = absurd (no_ok badarg s r)
+printed_is_a_fun d (term.tuple ts) s text r v fits spec_short p short = absurd (no_ok badarg s r)
 
 -- ---- the limit on the specification's text
 
-same_list : (ts us : List Tree) → ◌≡◌ {A = OrRefusal (List Tree)} (Ok ts) (Ok us) → ts ≡ us
-same_list ts us h = cc
-
-same_tree : (t u : Tree) → ◌≡◌ {A = OrRefusal Tree} (Ok t) (Ok u) → t ≡ u
-same_tree t u h = cc
-
 length_by : (b : Bool) (at : ℕ) (ts us : List Tree) → nat_le (length (w (list_term ts))) LENGTH ≡ b → cond b (Ok ts) (Err (too_large_at at)) ≡ Ok us → length (w (list_term us)) ≤ LENGTH
-length_by true at ts us e h = subst (λ vs. length (w (list_term vs)) ≤ LENGTH) (same_list ts us h) (leb-true (length (w (list_term ts))) LENGTH e)
+length_by true at ts us e h = subst (λ vs. length (w (list_term vs)) ≤ LENGTH) (same_ok ts us h) (leb-true (length (w (list_term ts))) LENGTH e)
 length_by false at ts us e h = absurd (cc)
 
 alternatives_short : (d : Dialect) (k : FunClause) (gs : List (List FunExpr)) (ts us : List Tree) → length (w (list_term ts)) ≤ LENGTH → with_alternatives d k ts gs ≡ Ok us → length (w (list_term us)) ≤ LENGTH
-alternatives_short d k [] ts us short h = subst (λ vs. length (w (list_term vs)) ≤ LENGTH) (same_list ts us h) short
+alternatives_short d k [] ts us short h = subst (λ vs. length (w (list_term vs)) ≤ LENGTH) (same_ok ts us h) short
 alternatives_short d k (g ∷ gs) ts us short h =
     let a = then_ok (alternative_term d k g) (λ t. then_fun (within_length k.at (ts ++ t ∷ [])) (λ vs. with_alternatives d k vs gs)) us h in
     let b = then_ok (within_length k.at (ts ++ a.0 ∷ [])) (λ vs. with_alternatives d k vs gs) us a.2 in
     alternatives_short d k gs b.0 us (length_by (nat_le (length (w (list_term (ts ++ a.0 ∷ [])))) LENGTH) k.at (ts ++ a.0 ∷ []) b.0 refl b.1) b.2
 
 fun_clauses_short : (d : Dialect) (ks : List FunClause) (ts us : List Tree) → length (w (list_term ts)) ≤ LENGTH → with_fun_clauses d ts ks ≡ Ok us → length (w (list_term us)) ≤ LENGTH
-fun_clauses_short d [] ts us short h = subst (λ vs. length (w (list_term vs)) ≤ LENGTH) (same_list ts us h) short
+fun_clauses_short d [] ts us short h = subst (λ vs. length (w (list_term vs)) ≤ LENGTH) (same_ok ts us h) short
 fun_clauses_short d (k ∷ ks) ts us short h =
     let a = then_ok (with_alternatives d k ts (alternatives_of k.guards)) (λ vs. with_fun_clauses d vs ks) us h in
     fun_clauses_short d ks a.0 us (alternatives_short d k (alternatives_of k.guards) ts a.0 short a.1) a.2
@@ -298,7 +279,7 @@ fun_clauses_short d (k ∷ ks) ts us short h =
 fun_is_short : (d : Dialect) (ks : List FunClause) (t : Tree) → tree_of_fun d ks ≡ Ok t → length (w t) ≤ LENGTH
 fun_is_short d ks t h =
     let a = then_ok (with_fun_clauses d [] ks) (λ ts. Ok (list_term ts)) t h in
-    subst (λ u. length (w u) ≤ LENGTH) (same_tree (list_term a.0) t a.2) (fun_clauses_short d ks [] a.0 (omega arith) a.1)
+    subst (λ u. length (w u) ≤ LENGTH) (same_ok (list_term a.0) t a.2) (fun_clauses_short d ks [] a.0 (omega arith) a.1)
 
 long_by : (b : Bool) (r : OrRefusal (List FunClause)) (ks : List FunClause) → cond b r (Err too_long) ≡ Ok ks → b ≡ true
 long_by true r ks h = refl

@@ -11,7 +11,7 @@ use Rattle.def_text.specs.Limits.{LIST_LENGTH, in_range, sizes_fit, all_sizes_fi
 use Rattle.def_text.specs.Tokens.{all_are, is_printable}
 use Rattle.def_text.specs.Writable.{is_writable, are_writable}
 use Rattle.def_spec.specs.Matching.{Pattern, variable, anything, only_term, in_tuple, in_list, Patterns, no_patterns, and_pattern, occurs, occurs_in_some}
-use Rattle.def_spec.specs.Reading.{SpecFault, badarg, Reads, then_read, AtomKind, a_variable, a_wrong_variable, a_plain_atom, atom_kind, is_wildcard, pattern_of_kind, pattern_of, patterns_of, head_of_kind, head_of}
+use Rattle.def_spec.specs.Reading.{badarg, Reads, then_read, AtomKind, a_variable, a_wrong_variable, a_plain_atom, atom_kind, is_wildcard, pattern_of_kind, pattern_of, patterns_of, head_of_kind, head_of}
 use Rattle.def_fun.specs.Trees as tree
 use Rattle.def_fun.specs.Trees.{FunExpr, FunExprs, each_expr, nesting_depth, greatest_nesting, is_pattern, are_patterns, alone}
 use Rattle.def_fun.specs.Grammar.{has_level, have_levels, is_fun_head}
@@ -19,40 +19,16 @@ use Rattle.def_fun.specs.Limits.{GREATEST_INTEGER, is_sized, are_sized}
 use Rattle.def_fun.specs.Refusals.{then_fun}
 use Rattle.def_fun.specs.Variables.{ClauseNames, ANY, dollar_name, variables_in, variables_in_each, with_name, with_names, number_among, of_number, kind_of_number, variable_kind}
 use Rattle.def_fun.specs.Translation.{VARIABLES, variable_term, is_variable_atom, pattern_term, pattern_terms}
-use Rattle.def_fun.specs.FunTexts.{OrReason, NoFunReason, wrong_order, no_head_atom, no_pid, then_print, numbered_variable, integer_expr, is_character_code, are_character_codes, is_text, string_expr, PrintedPattern, PrintedPatterns, pattern_atom, pattern_of_term, patterns_of_terms, head_of_term}
-use Rattle.def_fun.proofs.NumberedNames.{same_name, equal_names}
+use Rattle.def_fun.specs.FunTexts.{wrong_order, no_head_atom, no_pid, then_print, numbered_variable, integer_expr, is_character_code, are_character_codes, is_text, string_expr, PrintedPattern, PrintedPatterns, pattern_atom, pattern_of_term, patterns_of_terms, head_of_term}
+use Rattle.def_fun.proofs.NumberedNames.{same_name, equal_names, other_name}
 use Rattle.def_fun_printing.proofs.NumberAtoms.{dollar_back}
 use Rattle.def_fun_printing.proofs.Offsets.{unplaced, unplaced_each}
 use Rattle.def_fun_printing.proofs.ExprTexts.{HasText, HaveText}
 use Rattle.def_fun_printing.proofs.ExprsBack.{number_name, number_sized, text_back}
+use Rattle.def_fun_printing.proofs.PrintedHeads.{names_after, last_number}
+use Rattle.def_fun_printing.proofs.Results.{same_ok, no_ok, print_ok, read_ok}
 
 -- ---- results
-
-same_pattern : (p q : PrintedPattern) → ◌≡◌ {A = OrReason PrintedPattern} (Ok p) (Ok q) → p ≡ q
-same_pattern p q h = cc
-
-same_patterns : (p q : PrintedPatterns) → ◌≡◌ {A = OrReason PrintedPatterns} (Ok p) (Ok q) → p ≡ q
-same_patterns p q h = cc
-
-no_print : {A : Type 0} (r : NoFunReason) (x : A) → ◌≡◌ {A = OrReason A} (Err r) (Ok x) → ⊥
-no_print r x h = absurd (cc)
-
-no_read : {A : Type 0} (r : SpecFault) (x : A) → ◌≡◌ {A = Reads A} (Err r) (Ok x) → ⊥
-no_read r x h = absurd (cc)
-
-same_read : (p q : Pattern) → ◌≡◌ {A = Reads Pattern} (Ok p) (Ok q) → p ≡ q
-same_read p q h = cc
-
-same_reads : (p q : Patterns) → ◌≡◌ {A = Reads Patterns} (Ok p) (Ok q) → p ≡ q
-same_reads p q h = cc
-
-print_ok : {X Y : Type 0} (r : OrReason X) (f : X → OrReason Y) (y : Y) → then_print r f ≡ Ok y → (x : X) × (r ≡ Ok x) × (f x ≡ Ok y)
-print_ok (Ok x) f y h = (x, refl, h)
-print_ok (Err e) f y h = absurd (cc)
-
-read_ok : {X Y : Type 0} (r : Reads X) (f : X → Reads Y) (y : Y) → then_read r f ≡ Ok y → (x : X) × (r ≡ Ok x) × (f x ≡ Ok y)
-read_ok (Ok x) f y h = (x, refl, h)
-read_ok (Err e) f y h = absurd (cc)
 
 -- ---- X1, X2, and so on
 
@@ -99,9 +75,6 @@ is_there : (n k : ℕ) → 1 ≤ k → k ≤ n → is_among (names_to n) (x_name
 is_there zero k least most = absurd (omega (arith, least, most))
 is_there (suc n) k least most = among_end (names_to n) (x_name (suc n)) (x_name k) ∙ there_by n k (nat_le k n) refl least most (λ h. is_there n k least h)
 
-other_name : (n s : Name) → bytes_eq s n ≡ false → bytes_eq n s ≡ false
-other_name n s f = false_from_ne_true (bytes_eq n s) (λ e. both_ways (bytes_eq s n) f (equal_names s n (sym (same_name n s e))))
-
 number_by : (j : ℕ) (n : Name) (ns : List Name) (s u : Name) (b : Bool) → bytes_eq u n ≡ b → (b || is_among ns u) ≡ true → (is_among ns u ≡ true → number_among (j + 1) (ns ++ s ∷ []) u ≡ number_among (j + 1) ns u) → number_among j (n ∷ (ns ++ s ∷ [])) u ≡ number_among j (n ∷ ns) u
 number_by j n ns s u true e h later = let same = equal_names n u (sym (same_name u n e)) in cond-true (bytes_eq n u) _ _ same ∙ sym (cond-true (bytes_eq n u) _ _ same)
 number_by j n ns s u false e h later = let other = other_name n u e in cond-false (bytes_eq n u) _ _ other ∙ later h ∙ sym (cond-false (bytes_eq n u) _ _ other)
@@ -110,14 +83,6 @@ number_end : (j : ℕ) (ns : List Name) (s u : Name) → is_among ns u ≡ true 
 number_end j [] s u h = absurd (let no : false ≡ true = h in cc)
 number_end j (n ∷ ns) s u h = number_by j n ns s u (bytes_eq u n) refl h (λ g. number_end (j + 1) ns s u g)
 
-last_by : (j : ℕ) (n : Name) (ns : List Name) (s : Name) (b : Bool) → bytes_eq s n ≡ b → (b || is_among ns s) ≡ false → (is_among ns s ≡ false → number_among (j + 1) (ns ++ s ∷ []) s ≡ Some (length ns + (j + 1))) → number_among j (n ∷ (ns ++ s ∷ [])) s ≡ Some (length (n ∷ ns) + j)
-last_by j n ns s true e h later = absurd (let no : true ≡ false = h in cc)
-last_by j n ns s false e h later = cond-false (bytes_eq n s) _ _ (other_name n s e) ∙ later h ∙ ap (λ x. Some x) (let e : length ns + (j + 1) ≡ length (n ∷ ns) + j = omega arith in e)
-
-number_last : (j : ℕ) (ns : List Name) (s : Name) → is_among ns s ≡ false → number_among j (ns ++ s ∷ []) s ≡ Some (length ns + j)
-number_last j [] s h = cond-true (bytes_eq s s) _ _ (equal_names s s refl) ∙ ap (λ x. Some x) (let e : j ≡ 0 + j = omega arith in e)
-number_last j (n ∷ ns) s h = last_by j n ns s (bytes_eq s n) refl h (λ g. number_last (j + 1) ns s g)
-
 place_by : (n k : ℕ) (b : Bool) → nat_le k n ≡ b → 1 ≤ k → k ≤ suc n → suc n ≤ 999 → (k ≤ n → number_among 1 (names_to n) (x_name k) ≡ Some k) → number_among 1 (names_to n ++ x_name (suc n) ∷ []) (x_name k) ≡ Some k
 place_by n k true e least most h later = let less = leb-true k n e in number_end 1 (names_to n) (x_name (suc n)) (x_name k) (is_there n k least less) ∙ later less
 place_by n k false e least most h later =
@@ -125,7 +90,7 @@ place_by n k false e least most h later =
     let same : k ≡ suc n = omega (arith, most, more) in
     let counted = names_counted n in
     ap (λ j. number_among 1 (names_to n ++ x_name (suc n) ∷ []) (x_name j)) same
-    ∙ number_last 1 (names_to n) (x_name (suc n)) (not_among n (suc n) (omega arith) h)
+    ∙ last_number 1 (names_to n) [] (x_name (suc n)) (not_among n (suc n) (omega arith) h)
     ∙ ap (λ j. Some j) (let e : length (names_to n) + 1 ≡ k = omega (arith, counted, same) in e)
 
 number_there : (n k : ℕ) → 1 ≤ k → k ≤ n → n ≤ 999 → number_among 1 (names_to n) (x_name k) ≡ Some k
@@ -168,10 +133,6 @@ pub record ArePatternsBack (g : ℕ) (ts : Trees) (es : FunExprs) (n : ℕ) (ps 
   pub names : n ≤ 999 → with_names None (names_to g) (variables_in_each es) ≡ names_to n
   pub back : (m : ℕ) → n ≤ m → m ≤ 999 → (us : List Tree) × (pattern_terms (names_up_to m) es ≡ Ok us) × (of_elements us ≡ ts)
   pub bound : (k : ℕ) → occurs_in_some k ps ≡ true → (1 ≤ k) × (k ≤ n)
-
-names_after : (ns ss us : List Name) → with_names None ns (ss ++ us) ≡ with_names None (with_names None ns ss) us
-names_after ns [] us = refl
-names_after ns (s ∷ ss) us = names_after (with_name None ns s) ss us
 
 never : (k n : ℕ) (b : Bool) → b ≡ false → b ≡ true → (1 ≤ k) × (k ≤ n)
 never k n b h e = absurd (both_ways b h e)
@@ -237,37 +198,37 @@ number_pattern g k least most few = record {
 -- ---- atoms
 
 variable_by : (g k : ℕ) (b : Bool) (p : PrintedPattern) → ((k == 0) || nat_lt (g + 1) k) ≡ b → cond b (Err (wrong_order k (g + 1))) (Ok (numbered_variable k, max g k)) ≡ Ok p → (1 ≤ k) × (k ≤ g + 1) × ((numbered_variable k, max g k) ≡ p)
-variable_by g k true p e h = absurd (no_print (wrong_order k (g + 1)) p h)
+variable_by g k true p e h = absurd (no_ok (wrong_order k (g + 1)) p h)
 variable_by g k false p e h =
     let q = or_parts (k == 0) (nat_lt (g + 1) k) e in
     let most = ltb-false (g + 1) k q.1 in
-    (above_zero k (eqb-false k 0 q.0), most, same_pattern _ p h)
+    (above_zero k (eqb-false k 0 q.0), most, same_ok _ p h)
 
 plain_by : (g : ℕ) (s : Name) (w v : Bool) (p : PrintedPattern) (q : Pattern) → is_wildcard s ≡ w → is_variable_atom s ≡ v → all_are is_printable s ≡ true → nat_le (length s) 255 ≡ true → cond w (Ok (tree.variable 0 ANY, g)) (cond v (Err (no_head_atom s)) (Ok (tree.atom 0 s, g))) ≡ Ok p
     → ◌≡◌ {A = Reads Pattern} (Ok (cond w anything (only_term (term.atom s)))) (Ok q) → IsPatternBack g (term.atom s) p.0 p.1 q
 plain_by g s true v p q is_w is_v text size h r =
-    subst (λ x. IsPatternBack g (term.atom s) x.0 x.1 q) (same_pattern (tree.variable 0 ANY, g) p h)
-    (subst (IsPatternBack g (term.atom s) (tree.variable 0 ANY) g) (same_read anything q r) (subst (λ x. IsPatternBack g (term.atom x) (tree.variable 0 ANY) g anything) (sym (same_name s (codes "_") is_w)) (any_pattern g)))
-plain_by g s false true p q is_w is_v text size h r = absurd (no_print (no_head_atom s) p h)
+    subst (λ x. IsPatternBack g (term.atom s) x.0 x.1 q) (same_ok (tree.variable 0 ANY, g) p h)
+    (subst (IsPatternBack g (term.atom s) (tree.variable 0 ANY) g) (same_ok anything q r) (subst (λ x. IsPatternBack g (term.atom x) (tree.variable 0 ANY) g anything) (sym (same_name s (codes "_") is_w)) (any_pattern g)))
+plain_by g s false true p q is_w is_v text size h r = absurd (no_ok (no_head_atom s) p h)
 plain_by g s false false p q is_w is_v text size h r =
-    subst (λ x. IsPatternBack g (term.atom s) x.0 x.1 q) (same_pattern (tree.atom 0 s, g) p h) (subst (IsPatternBack g (term.atom s) (tree.atom 0 s) g) (same_read (only_term (term.atom s)) q r) (atom_pattern g s text size is_v))
+    subst (λ x. IsPatternBack g (term.atom s) x.0 x.1 q) (same_ok (tree.atom 0 s, g) p h) (subst (IsPatternBack g (term.atom s) (tree.atom 0 s) g) (same_ok (only_term (term.atom s)) q r) (atom_pattern g s text size is_v))
 
 kind_by : (g : ℕ) (s : Name) (k : AtomKind) (p : PrintedPattern) (q : Pattern) → atom_kind s ≡ k → all_are is_printable s ≡ true → nat_le (length s) 255 ≡ true → pattern_atom g s k ≡ Ok p → pattern_of_kind s k ≡ Ok q → IsPatternBack g (term.atom s) p.0 p.1 q
 kind_by g s (a_variable k) p q kind text size h r =
     let x = variable_by g k ((k == 0) || nat_lt (g + 1) k) p refl h in
     let y = dollar_back s k kind in
     subst (λ z. IsPatternBack g (term.atom s) z.0 z.1 q) x.2
-    (subst (IsPatternBack g (term.atom s) (numbered_variable k) (max g k)) (same_read (variable k) q r) (subst (λ z. IsPatternBack g (term.atom z) (numbered_variable k) (max g k) (variable k)) (sym y.0) (number_pattern g k x.0 x.1 y.1)))
-kind_by g s a_wrong_variable p q kind text size h r = absurd (no_read badarg q r)
+    (subst (IsPatternBack g (term.atom s) (numbered_variable k) (max g k)) (same_ok (variable k) q r) (subst (λ z. IsPatternBack g (term.atom z) (numbered_variable k) (max g k) (variable k)) (sym y.0) (number_pattern g k x.0 x.1 y.1)))
+kind_by g s a_wrong_variable p q kind text size h r = absurd (no_ok badarg q r)
 kind_by g s a_plain_atom p q kind text size h r = plain_by g s (is_wildcard s) (is_variable_atom s) p q refl refl text size h r
 
 -- ---- lists and tuples
 
 codes_occur : (k : ℕ) (ts : Trees) (ps : Patterns) → are_character_codes ts ≡ true → patterns_of ts ≡ Ok ps → occurs_in_some k ps ≡ false
-codes_occur k term.none ps c h = ap (occurs_in_some k) (sym (same_reads no_patterns ps h))
+codes_occur k term.none ps c h = ap (occurs_in_some k) (sym (same_ok no_patterns ps h))
 codes_occur k (term.more (term.int z) ts) ps c h =
     let a = read_ok (patterns_of ts) (λ qs. Ok (and_pattern (only_term (term.int z)) qs)) ps h in
-    ap (occurs_in_some k) (sym (same_reads _ ps a.2)) ∙ codes_occur k ts a.0 (and_parts (is_character_code (term.int z)) (are_character_codes ts) c).1 a.1
+    ap (occurs_in_some k) (sym (same_ok _ ps a.2)) ∙ codes_occur k ts a.0 (and_parts (is_character_code (term.int z)) (are_character_codes ts) c).1 a.1
 codes_occur k (term.more (term.atom s) ts) ps c h = absurd (let no : false ≡ true = c in cc)
 codes_occur k (term.more (term.pid n) ts) ps c h = absurd (let no : false ≡ true = c in cc)
 codes_occur k (term.more (term.tuple us) ts) ps c h = absurd (let no : false ≡ true = c in cc)
@@ -345,7 +306,7 @@ one_more g m n t ts e es p ps a b =
       deep = omega (arith, deep, more_deep);
       grows = omega (arith, up, more_up);
       small = λ h. b.small (a.small h);
-      names = λ h. names_after (names_to g) (variables_in e) (variables_in_each es) ∙ ap (λ ns. with_names None ns (variables_in_each es)) (a.names (omega (arith, h, more_up))) ∙ b.names h;
+      names = λ h. names_after None (names_to g) (variables_in e) (variables_in_each es) ∙ ap (λ ns. with_names None ns (variables_in_each es)) (a.names (omega (arith, h, more_up))) ∙ b.names h;
       back = λ k h l.
           let c = b.back k h l in
           (t ∷ c.0, ap (λ z. then_fun z (λ x. then_fun (pattern_terms (names_up_to k) es) (λ xs. Ok (x ∷ xs)))) (a.back k (omega (arith, h, more_up)) l) ∙ ap (λ z. then_fun z (λ xs. Ok (t ∷ xs))) c.1, ap (term.more t) c.2);
@@ -355,33 +316,33 @@ one_more g m n t ts e es p ps a b =
 
 list_by : (g : ℕ) (ts : Trees) (b : Bool) (p : PrintedPattern) (ps : Patterns) → is_text ts ≡ b → nat_le (count ts) LIST_LENGTH ≡ true → patterns_of ts ≡ Ok ps → ((q : PrintedPatterns) → patterns_of_terms g ts ≡ Ok q → ArePatternsBack g ts q.0 q.1 ps)
     → cond b (Ok (string_expr ts, g)) (then_print (patterns_of_terms g ts) (λ q. Ok (tree.list 0 q.0, q.1))) ≡ Ok p → IsPatternBack g (term.list ts) p.0 p.1 (in_list ps)
-list_by g ts true p ps text size read rows h = subst (λ x. IsPatternBack g (term.list ts) x.0 x.1 (in_list ps)) (same_pattern (string_expr ts, g) p h) (string_pattern g ts ps text size read)
+list_by g ts true p ps text size read rows h = subst (λ x. IsPatternBack g (term.list ts) x.0 x.1 (in_list ps)) (same_ok (string_expr ts, g) p h) (string_pattern g ts ps text size read)
 list_by g ts false p ps text size read rows h =
     let a = print_ok (patterns_of_terms g ts) (λ q. Ok (tree.list 0 q.0, q.1)) p h in
-    subst (λ x. IsPatternBack g (term.list ts) x.0 x.1 (in_list ps)) (same_pattern (tree.list 0 a.0.0, a.0.1) p a.2) (list_pattern g a.0.1 ts a.0.0 ps size (rows a.0 a.1))
+    subst (λ x. IsPatternBack g (term.list ts) x.0 x.1 (in_list ps)) (same_ok (tree.list 0 a.0.0, a.0.1) p a.2) (list_pattern g a.0.1 ts a.0.0 ps size (rows a.0 a.1))
 
 mutual
   -- each term is that of its pattern
   pub pattern_back : (g : ℕ) (t : Tree) (p : PrintedPattern) (q : Pattern) → pattern_of_term g t ≡ Ok p → pattern_of t ≡ Ok q → is_writable t ≡ true → sizes_fit t ≡ true → IsPatternBack g t p.0 p.1 q
   pattern_back g (term.int z) p q h r w s =
-      subst (λ x. IsPatternBack g (term.int z) x.0 x.1 q) (same_pattern (integer_expr (term.int z), g) p h) (subst (IsPatternBack g (term.int z) (integer_expr (term.int z)) g) (same_read (only_term (term.int z)) q r) (int_pattern g z s))
+      subst (λ x. IsPatternBack g (term.int z) x.0 x.1 q) (same_ok (integer_expr (term.int z), g) p h) (subst (IsPatternBack g (term.int z) (integer_expr (term.int z)) g) (same_ok (only_term (term.int z)) q r) (int_pattern g z s))
   pattern_back g (term.atom a) p q h r w s = kind_by g a (atom_kind a) p q refl w s h r
-  pattern_back g (term.pid n) p q h r w s = absurd (no_print (no_pid n) p h)
+  pattern_back g (term.pid n) p q h r w s = absurd (no_ok (no_pid n) p h)
   pattern_back g (term.tuple ts) p q h r w s =
       let sizes = and_parts (nat_le (count ts) 255) (all_sizes_fit ts) s in
       let a = print_ok (patterns_of_terms g ts) (λ x. Ok (tree.tuple 0 x.0, x.1)) p h in
       let b = read_ok (patterns_of ts) (λ ps. Ok (in_tuple ps)) q r in
-      subst (λ x. IsPatternBack g (term.tuple ts) x.0 x.1 q) (same_pattern (tree.tuple 0 a.0.0, a.0.1) p a.2)
-      (subst (IsPatternBack g (term.tuple ts) (tree.tuple 0 a.0.0) a.0.1) (same_read (in_tuple b.0) q b.2) (tuple_pattern g a.0.1 ts a.0.0 b.0 sizes.0 (patterns_back g ts a.0 b.0 a.1 b.1 w sizes.1)))
+      subst (λ x. IsPatternBack g (term.tuple ts) x.0 x.1 q) (same_ok (tree.tuple 0 a.0.0, a.0.1) p a.2)
+      (subst (IsPatternBack g (term.tuple ts) (tree.tuple 0 a.0.0) a.0.1) (same_ok (in_tuple b.0) q b.2) (tuple_pattern g a.0.1 ts a.0.0 b.0 sizes.0 (patterns_back g ts a.0 b.0 a.1 b.1 w sizes.1)))
   pattern_back g (term.list ts) p q h r w s =
       let sizes = and_parts (nat_le (count ts) LIST_LENGTH) (all_sizes_fit ts) s in
       let b = read_ok (patterns_of ts) (λ ps. Ok (in_list ps)) q r in
-      subst (IsPatternBack g (term.list ts) p.0 p.1) (same_read (in_list b.0) q b.2) (list_by g ts (is_text ts) p b.0 refl sizes.0 b.1 (λ x k. patterns_back g ts x b.0 k b.1 w sizes.1) h)
+      subst (IsPatternBack g (term.list ts) p.0 p.1) (same_ok (in_list b.0) q b.2) (list_by g ts (is_text ts) p b.0 refl sizes.0 b.1 (λ x k. patterns_back g ts x b.0 k b.1 w sizes.1) h)
 
   pub patterns_back : (g : ℕ) (ts : Trees) (p : PrintedPatterns) (q : Patterns) → patterns_of_terms g ts ≡ Ok p → patterns_of ts ≡ Ok q → are_writable ts ≡ true → all_sizes_fit ts ≡ true → ArePatternsBack g ts p.0 p.1 q
   patterns_back g term.none p q h r w s =
-      subst (λ x. ArePatternsBack g term.none x.0 x.1 q) (same_patterns (tree.none, g) p h)
-      (subst (ArePatternsBack g term.none tree.none g) (same_reads no_patterns q r)
+      subst (λ x. ArePatternsBack g term.none x.0 x.1 q) (same_ok (tree.none, g) p h)
+      (subst (ArePatternsBack g term.none tree.none g) (same_ok no_patterns q r)
       (record { text = tt; bare = refl; pattern = refl; level = refl; sized = refl; counted = refl; deep = omega arith; grows = omega arith; small = λ x. x; names = λ x. refl; back = λ m x y. ([], refl, refl); bound = λ k e. never k g false refl e }))
   patterns_back g (term.more t ts) p q h r w s =
       let writable = and_parts (is_writable t) (are_writable ts) w in
@@ -390,8 +351,8 @@ mutual
       let b = print_ok (patterns_of_terms a.0.1 ts) (λ y. Ok (tree.more a.0.0 y.0, y.1)) p a.2 in
       let c = read_ok (pattern_of t) (λ x. then_read (patterns_of ts) (λ xs. Ok (and_pattern x xs))) q r in
       let f = read_ok (patterns_of ts) (λ xs. Ok (and_pattern c.0 xs)) q c.2 in
-      subst (λ x. ArePatternsBack g (term.more t ts) x.0 x.1 q) (same_patterns (tree.more a.0.0 b.0.0, b.0.1) p b.2)
-      (subst (ArePatternsBack g (term.more t ts) (tree.more a.0.0 b.0.0) b.0.1) (same_reads (and_pattern c.0 f.0) q f.2)
+      subst (λ x. ArePatternsBack g (term.more t ts) x.0 x.1 q) (same_ok (tree.more a.0.0 b.0.0, b.0.1) p b.2)
+      (subst (ArePatternsBack g (term.more t ts) (tree.more a.0.0 b.0.0) b.0.1) (same_ok (and_pattern c.0 f.0) q f.2)
       (one_more g a.0.1 b.0.1 t ts a.0.0 b.0.0 c.0 f.0 (pattern_back g t a.0 c.0 a.1 c.1 writable.0 sizes.0) (patterns_back a.0.1 ts b.0 f.0 b.1 f.1 writable.1 sizes.1)))
 
 -- ---- heads
@@ -430,29 +391,29 @@ pattern_head t e n p head b =
 any_head_by : (s : Name) (w : Bool) (p : PrintedPattern) (q : Pattern) → is_wildcard s ≡ w → atom_kind s ≡ a_plain_atom → all_are is_printable s ≡ true → nat_le (length s) 255 ≡ true → cond w (Ok (tree.variable 0 ANY, 0)) (cond (is_variable_atom s) (Err (no_head_atom s)) (Ok (tree.atom 0 s, 0))) ≡ Ok p
     → cond w (Ok anything) (Err badarg) ≡ Ok q → IsHeadBack (term.atom s) p.0 q
 any_head_by s true p q is_w kind text size h r =
-    let same = same_pattern (tree.variable 0 ANY, 0) p h in
+    let same = same_ok (tree.variable 0 ANY, 0) p h in
     let b = subst (λ x. IsPatternBack 0 (term.atom x) (tree.variable 0 ANY) 0 anything) (sym (same_name s (codes "_") is_w)) (any_pattern 0) in
-    subst (λ x. IsHeadBack (term.atom s) x.0 q) same (subst (IsHeadBack (term.atom s) (tree.variable 0 ANY)) (same_read anything q r) (pattern_head (term.atom s) (tree.variable 0 ANY) 0 anything refl b))
-any_head_by s false p q is_w kind text size h r = absurd (no_read badarg q r)
+    subst (λ x. IsHeadBack (term.atom s) x.0 q) same (subst (IsHeadBack (term.atom s) (tree.variable 0 ANY)) (same_ok anything q r) (pattern_head (term.atom s) (tree.variable 0 ANY) 0 anything refl b))
+any_head_by s false p q is_w kind text size h r = absurd (no_ok badarg q r)
 
 -- a whole head that is an atom
 head_kind_by : (s : Name) (k : AtomKind) (p : PrintedPattern) (q : Pattern) → atom_kind s ≡ k → all_are is_printable s ≡ true → nat_le (length s) 255 ≡ true → pattern_atom 0 s k ≡ Ok p → head_of_kind s k ≡ Ok q → IsHeadBack (term.atom s) p.0 q
 head_kind_by s (a_variable k) p q kind text size h r =
     let x = variable_by 0 k ((k == 0) || nat_lt (0 + 1) k) p refl h in
     pattern_head (term.atom s) p.0 p.1 q (ap (λ z. is_fun_head (alone z.0)) (sym x.2)) (kind_by 0 s (a_variable k) p q kind text size h r)
-head_kind_by s a_wrong_variable p q kind text size h r = absurd (no_read badarg q r)
+head_kind_by s a_wrong_variable p q kind text size h r = absurd (no_ok badarg q r)
 head_kind_by s a_plain_atom p q kind text size h r = any_head_by s (is_wildcard s) p q refl kind text size h r
 
 -- each head is that of its pattern
 pub head_back : (t : Tree) (p : PrintedPattern) (q : Pattern) → head_of_term t ≡ Ok p → head_of t ≡ Ok q → is_writable t ≡ true → sizes_fit t ≡ true → IsHeadBack t p.0 q
-head_back (term.int z) p q h r w s = absurd (no_read badarg q r)
+head_back (term.int z) p q h r w s = absurd (no_ok badarg q r)
 head_back (term.atom a) p q h r w s = head_kind_by a (atom_kind a) p q refl w s h r
-head_back (term.pid n) p q h r w s = absurd (no_read badarg q r)
-head_back (term.tuple ts) p q h r w s = absurd (no_read badarg q r)
+head_back (term.pid n) p q h r w s = absurd (no_ok badarg q r)
+head_back (term.tuple ts) p q h r w s = absurd (no_ok badarg q r)
 head_back (term.list ts) p q h r w s =
     let sizes = and_parts (nat_le (count ts) LIST_LENGTH) (all_sizes_fit ts) s in
     let a = print_ok (patterns_of_terms 0 ts) (λ x. Ok (tree.list 0 x.0, x.1)) p h in
     let b = read_ok (patterns_of ts) (λ ps. Ok (in_list ps)) q r in
     let rows = patterns_back 0 ts a.0 b.0 a.1 b.1 w sizes.1 in
-    subst (λ x. IsHeadBack (term.list ts) x.0 q) (same_pattern (tree.list 0 a.0.0, a.0.1) p a.2)
-    (subst (IsHeadBack (term.list ts) (tree.list 0 a.0.0)) (same_read (in_list b.0) q b.2) (pattern_head (term.list ts) (tree.list 0 a.0.0) a.0.1 (in_list b.0) rows.pattern (list_pattern 0 a.0.1 ts a.0.0 b.0 sizes.0 rows)))
+    subst (λ x. IsHeadBack (term.list ts) x.0 q) (same_ok (tree.list 0 a.0.0, a.0.1) p a.2)
+    (subst (IsHeadBack (term.list ts) (tree.list 0 a.0.0)) (same_ok (in_list b.0) q b.2) (pattern_head (term.list ts) (tree.list 0 a.0.0) a.0.1 (in_list b.0) rows.pattern (list_pattern 0 a.0.1 ts a.0.0 b.0 sizes.0 rows)))

@@ -1,12 +1,12 @@
+pub mod Results
 pub mod NumberAtoms
 pub mod CallNames
-pub mod PrintedTerms
-pub mod PrintedHeads
-pub mod PrintedFuns
 pub mod OperatorBounds
 pub mod ExprReads
 pub mod FunReads
-pub mod LawRows
+pub mod PrintedTerms
+pub mod PrintedHeads
+pub mod PrintedFuns
 pub mod TextTokens
 pub mod Offsets
 pub mod ExprTexts
@@ -15,3 +15,4 @@ pub mod HeadsBack
 pub mod RowsBack
 pub mod ClausesBack
 pub mod FunsBack
+pub mod LawRows

@@ -19,6 +19,7 @@ use Rattle.def_fun.specs.Constants.{Computation, not_computed, gives, gives_too_
 use Rattle.def_fun.specs.Calls.{may_call, is_object, is_bindings, FunCall, the_object, the_bindings, a_call, named_fun_call}
 use Rattle.def_fun.specs.Translation.{VARIABLES, variable_term, is_proper_tail, elements_of_list, onto_tail, is_variable_atom, negative_integer, pattern_term, pattern_terms, TranslatedExpr, all_terms, all_constants, constants_onto, operator_translated, prefix_translated, computed_if_one, computed_if_two, expr_translated, exprs_translated}
 use Rattle.def_fun.proofs.Translations.{then_ok, then_is}
+use Rattle.def_fun_printing.proofs.Results.{no_ok}
 
 abbrev mutual
   pub unplaced : FunExpr → FunExpr
@@ -174,18 +175,15 @@ mutual
 pub then_alike : {X Y : Type 0} (r s : OrRefusal X) (f g : X → OrRefusal Y) (y : Y) → ((x : X) → r ≡ Ok x → s ≡ Ok x) → ((x : X) → f x ≡ Ok y → g x ≡ Ok y) → then_fun r f ≡ Ok y → then_fun s g ≡ Ok y
 then_alike r s f g y first later h = let a = then_ok r f y h in then_is s g a.0 (first a.0 a.1) ∙ later a.0 a.2
 
-no_value : {A : Type 0} (e : FunRefusal) (x : A) → ◌≡◌ {A = OrRefusal A} (Err e) (Ok x) → ⊥
-no_value e x h = absurd (cc)
-
 cond_alike : {X : Type 0} (b : Bool) (r s : OrRefusal X) (e f : FunRefusal) (x : X) → (r ≡ Ok x → s ≡ Ok x) → cond b r (Err e) ≡ Ok x → cond b s (Err f) ≡ Ok x
 cond_alike true r s e f x g h = g h
-cond_alike false r s e f x g h = absurd (no_value e x h)
+cond_alike false r s e f x g h = absurd (no_ok e x h)
 
 variable_alike : (s : Name) (at : ℕ) (k : VariableKind) (t : Tree) → variable_term s 0 k ≡ Ok t → variable_term s at k ≡ Ok t
 variable_alike s at the_whole t h = h
 variable_alike s at anything_there t h = h
 variable_alike s at (of_number k) t h = cond_alike (nat_le k VARIABLES) (Ok (term.atom (dollar_name k))) (Ok (term.atom (dollar_name k))) (too_large_at 0) (too_large_at at) t (λ x. x) h
-variable_alike s at of_no_head t h = absurd (no_value (unbound s 0) t h)
+variable_alike s at of_no_head t h = absurd (no_ok (unbound s 0) t h)
 
 onto_alike : (a b : ℕ) (ts : List Tree) (u t : Tree) → onto_tail a ts u ≡ Ok t → onto_tail b ts u ≡ Ok t
 onto_alike a b ts u t h = cond_alike (nat_le (length (ts ++ elements_of_list u)) LIST_LENGTH) (Ok (list (of_elements (ts ++ elements_of_list u)))) (Ok (list (of_elements (ts ++ elements_of_list u)))) (too_large_at a) (too_large_at b) t (λ x. x) h
@@ -204,24 +202,24 @@ tail_same (before at o e) = refl
 tail_same (between at o l r) = refl
 
 call_by : (a b c m : Bool) (e f g h : FunRefusal) (k : FunCall) → cond a (Err e) (cond b (Ok the_object) (cond c (Ok the_bindings) (cond m (Ok a_call) (Err f)))) ≡ Ok k → cond a (Err g) (cond b (Ok the_object) (cond c (Ok the_bindings) (cond m (Ok a_call) (Err h)))) ≡ Ok k
-call_by true b c m e f g h k x = absurd (no_value e k x)
+call_by true b c m e f g h k x = absurd (no_ok e k x)
 call_by false true c m e f g h k x = x
 call_by false false true m e f g h k x = x
 call_by false false false true e f g h k x = x
-call_by false false false false e f g h k x = absurd (no_value f k x)
+call_by false false false false e f g h k x = absurd (no_ok f k x)
 
 call_alike : (d : Dialect) (part : Position) (s : Name) (n at : ℕ) (k : FunCall) → named_fun_call d part s n 0 ≡ Ok k → named_fun_call d part s n at ≡ Ok k
 call_alike d part s n at k h = call_by (is_among unsupported_names s) (is_object s && nat_le n 0) (is_bindings s && nat_le n 0) (may_call d part s n) (unsupported s 0) (no_function s n 0) (unsupported s at) (no_function s n at) k h
 
 operator_alike : (at : ℕ) (o : FunOperator) (ts : List Tree) (c : Computation) (x : TranslatedExpr) → operator_translated 0 o ts c ≡ Ok x → operator_translated at o ts c ≡ Ok x
 operator_alike at o ts (gives v) x h = h
-operator_alike at o ts gives_too_large x h = absurd (no_value (too_large_at 0) x h)
+operator_alike at o ts gives_too_large x h = absurd (no_ok (too_large_at 0) x h)
 operator_alike at o ts not_computed x h = h
 
 minus_alike : (at : ℕ) (t : Tree) (c : Computation) (x : TranslatedExpr) → prefix_translated 0 op.minus t c ≡ Ok x → prefix_translated at op.minus t c ≡ Ok x
 minus_alike at t (gives v) x h = h
-minus_alike at t gives_too_large x h = absurd (no_value (too_large_at 0) x h)
-minus_alike at t not_computed x h = absurd (no_value (minus_alone 0) x h)
+minus_alike at t gives_too_large x h = absurd (no_ok (too_large_at 0) x h)
+minus_alike at t not_computed x h = absurd (no_ok (minus_alone 0) x h)
 
 prefix_alike : (at : ℕ) (o : FunOperator) (t : Tree) (c : Computation) (x : TranslatedExpr) → prefix_translated 0 o t c ≡ Ok x → prefix_translated at o t c ≡ Ok x
 prefix_alike at op.minus t c x h = minus_alike at t c x h
@@ -254,19 +252,19 @@ module _ (d : Dialect) (part : Position) (ns : ClauseNames) where
 
 negative_alike : (at : ℕ) (e : FunExpr) (t : Tree) → negative_integer 0 (unplaced e) ≡ Ok t → negative_integer at e ≡ Ok t
 negative_alike at (whole here n) t h = h
-negative_alike at (variable here s) t h = absurd (no_value (minus_alone 0) t h)
-negative_alike at (atom here s) t h = absurd (no_value (minus_alone 0) t h)
-negative_alike at (strings here s ss) t h = absurd (no_value (minus_alone 0) t h)
-negative_alike at (in_parens here e) t h = absurd (no_value (minus_alone 0) t h)
-negative_alike at (call here s es) t h = absurd (no_value (minus_alone 0) t h)
-negative_alike at (tree.list here es) t h = absurd (no_value (minus_alone 0) t h)
-negative_alike at (list_onto here es e) t h = absurd (no_value (minus_alone 0) t h)
-negative_alike at (tuple here es) t h = absurd (no_value (minus_alone 0) t h)
-negative_alike at (before here p e) t h = absurd (no_value (minus_alone 0) t h)
-negative_alike at (between here p l r) t h = absurd (no_value (minus_alone 0) t h)
+negative_alike at (variable here s) t h = absurd (no_ok (minus_alone 0) t h)
+negative_alike at (atom here s) t h = absurd (no_ok (minus_alone 0) t h)
+negative_alike at (strings here s ss) t h = absurd (no_ok (minus_alone 0) t h)
+negative_alike at (in_parens here e) t h = absurd (no_ok (minus_alone 0) t h)
+negative_alike at (call here s es) t h = absurd (no_ok (minus_alone 0) t h)
+negative_alike at (tree.list here es) t h = absurd (no_ok (minus_alone 0) t h)
+negative_alike at (list_onto here es e) t h = absurd (no_ok (minus_alone 0) t h)
+negative_alike at (tuple here es) t h = absurd (no_ok (minus_alone 0) t h)
+negative_alike at (before here p e) t h = absurd (no_ok (minus_alone 0) t h)
+negative_alike at (between here p l r) t h = absurd (no_ok (minus_alone 0) t h)
 
 head_atom_by : (b : Bool) (at : ℕ) (s : Name) (t : Tree) → cond b (Err (head_atom s 0)) (Ok (term.atom s)) ≡ Ok t → cond b (Err (head_atom s at)) (Ok (term.atom s)) ≡ Ok t
-head_atom_by true at s t h = absurd (no_value (head_atom s 0) t h)
+head_atom_by true at s t h = absurd (no_ok (head_atom s 0) t h)
 head_atom_by false at s t h = h
 
 module _ (ns : ClauseNames) where
@@ -278,7 +276,7 @@ module _ (ns : ClauseNames) where
     pattern_alike (atom at s) t h = head_atom_by (is_variable_atom s) at s t h
     pattern_alike (strings at s ss) t h = h
     pattern_alike (in_parens at e) t h = pattern_alike e t h
-    pattern_alike (call at s es) t h = absurd (no_value (minus_alone 0) t h)
+    pattern_alike (call at s es) t h = absurd (no_ok (minus_alone 0) t h)
     pattern_alike (tree.list at es) t h = then_alike _ _ _ _ t (λ ts l. patterns_alike es ts l) (λ ts l. l) h
     pattern_alike (list_onto at es e) t h =
         then_alike _ _ _ _ t (λ ts l. patterns_alike es ts l)
@@ -287,7 +285,7 @@ module _ (ns : ClauseNames) where
         (ap (λ b. cond b (then_fun (pattern_term ns (unplaced e)) (λ u. onto_tail (first_byte (unplaced e)) ts u)) (Err (list_with_tail (first_byte (unplaced e))))) (sym (tail_same e)) ∙ k)) h
     pattern_alike (tuple at es) t h = then_alike _ _ _ _ t (λ ts l. patterns_alike es ts l) (λ ts l. l) h
     pattern_alike (before at o e) t h = negative_alike at e t h
-    pattern_alike (between at o l r) t h = absurd (no_value (minus_alone 0) t h)
+    pattern_alike (between at o l r) t h = absurd (no_ok (minus_alone 0) t h)
 
     pub patterns_alike : (es : FunExprs) (ts : List Tree) → pattern_terms ns (unplaced_each es) ≡ Ok ts → pattern_terms ns es ≡ Ok ts
     patterns_alike none ts h = h

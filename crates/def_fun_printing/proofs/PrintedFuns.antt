@@ -7,11 +7,11 @@ use Rattle.def_text.specs.Spelling.{LENGTH}
 use Rattle.def_spec.specs.Expressions.{Dialect, Position, in_condition, in_body}
 use Rattle.def_fun.specs.Tokens.{FunSpan}
 use Rattle.def_fun.specs.Trees.{FunExpr, FunClause, first_byte}
-use Rattle.def_fun.specs.Grammar.{has_level, are_exprs, are_guards, is_fun_head, is_fun_clause, are_fun_clauses, DerivesFun}
+use Rattle.def_fun.specs.Grammar.{has_level, are_exprs, are_guards, is_fun_head, are_fun_clauses, DerivesFun}
 use Rattle.def_fun.specs.Reading.{read_fun, FunFault}
 use Rattle.def_fun.specs.Scan.{fun_spans}
 use Rattle.def_fun.specs.Limits.{FUN_DEPTH}
-use Rattle.def_fun.specs.Refusals.{FunRefusal, too_long, too_deep_at, too_large_at, OrRefusal, then_fun}
+use Rattle.def_fun.specs.Refusals.{too_long, too_deep_at, too_large_at, OrRefusal, then_fun}
 use Rattle.def_fun.specs.Variables.{ClauseNames, names_of}
 use Rattle.def_fun.specs.Translation.{expr_translated, PART_DEPTH, within_depth, part_term, part_terms, head_term, list_term, alternative_term, alternatives_of, within_length, with_alternatives, with_fun_clauses, tree_of_fun}
 use Rattle.def_fun.specs.Answers.{reading_refusal, read_or_refusal, fun_of_text, spec_of_text}
@@ -20,15 +20,8 @@ use Rattle.def_fun.proofs.FunRuns.{read_derives}
 use Rattle.def_fun.proofs.Translations.{then_ok}
 use Rattle.def_fun_printing.proofs.PrintedTerms.{printed}
 use Rattle.def_fun_printing.proofs.PrintedHeads.{head_printed}
-
-same_term : (t u : Tree) → ◌≡◌ {A = OrRefusal Tree} (Ok t) (Ok u) → t ≡ u
-same_term t u h = cc
-
-same_terms : (ts us : List Tree) → ◌≡◌ {A = OrRefusal (List Tree)} (Ok ts) (Ok us) → ts ≡ us
-same_terms ts us h = cc
-
-no_term : {A : Type 0} (e : FunRefusal) (x : A) → ◌≡◌ {A = OrRefusal A} (Err e) (Ok x) → ⊥
-no_term e x h = absurd (cc)
+use Rattle.def_fun_printing.proofs.FunReads.{EachClause, each_clause}
+use Rattle.def_fun_printing.proofs.Results.{same_ok, no_ok}
 
 -- ---- rows
 
@@ -43,8 +36,8 @@ exprs_level (e ∷ []) h = ap (λ b. b && true) h
 exprs_level (e ∷ f ∷ es) h = let p = and_parts (has_level 1 e) (are_exprs (f ∷ es)) h in ap (λ b. b && each_level (f ∷ es)) p.0 ∙ exprs_level (f ∷ es) p.1
 
 depth_by : (b : Bool) (at : ℕ) (t u : Tree) → cond b (Ok t) (Err (too_deep_at at)) ≡ Ok u → t ≡ u
-depth_by true at t u h = same_term t u h
-depth_by false at t u h = absurd (no_term (too_deep_at at) u h)
+depth_by true at t u h = same_ok t u h
+depth_by false at t u h = absurd (no_ok (too_deep_at at) u h)
 
 -- the terms of a row are printed
 abbrev RowPrinted : Dialect → Position → ℕ → (ℕ → ClausePart) → ℕ → List Tree → Type 0
@@ -55,7 +48,7 @@ clause_text p gs es = codes "(" ++ expr_text p.0 ++ codes ")" ++ when_text gs ++
 
 module _ (d : Dialect) where
   row_printed : (part : Position) (ns : ClauseNames) (n : ℕ) (p : ℕ → ClausePart) (k : ℕ) (es : List FunExpr) (ts : List Tree) → each_level es ≡ true → part_terms d part ns es ≡ Ok ts → RowPrinted d part n p k ts
-  row_printed part ns n p k [] ts l h = subst (RowPrinted d part n p k) (same_terms [] ts h) ([], refl)
+  row_printed part ns n p k [] ts l h = subst (RowPrinted d part n p k) (same_ok [] ts h) ([], refl)
   row_printed part ns n p k (e ∷ es) ts l h =
       let levels = and_parts (has_level 1 e) (each_level es) l in
       let a = then_ok (part_term d part ns e) (λ t. then_fun (part_terms d part ns es) (λ us. Ok (t ∷ us))) ts h in
@@ -66,7 +59,7 @@ module _ (d : Dialect) where
       let here = printed d part ns e 1 x levels.0 c.1 in
       let there : expr_of_term d part a.0 ≡ Ok here.expr = ap (expr_of_term d part) (sym is) ∙ here.is in
       let later = row_printed part ns n p (k + 1) es b.0 levels.1 b.1 in
-      subst (RowPrinted d part n p k) (same_terms (a.0 ∷ b.0) ts b.2)
+      subst (RowPrinted d part n p k) (same_ok (a.0 ∷ b.0) ts b.2)
       (expr_text here.expr ∷ later.0, ap (λ z. then_clause (reason_at n (p k) z) (λ y. then_clause (parts_printed d part n p (k + 1) (of_elements b.0)) (λ ys. Ok (expr_text y ∷ ys)))) there ∙ ap (λ z. then_clause z (λ ys. Ok (expr_text here.expr ∷ ys))) later.1)
 
   body_goes : (ns : ClauseNames) (n : ℕ) (es : List FunExpr) (ts : List Tree) → are_exprs es ≡ true → part_terms d in_body ns es ≡ Ok ts → (us : List (List ℕ)) × (body_printed d n (of_elements ts) ≡ Ok us)
@@ -75,7 +68,7 @@ module _ (d : Dialect) where
       let r = row_printed in_body ns n the_expression 1 (e ∷ es) ts (exprs_level (e ∷ es) l) h in
       let a = then_ok (part_term d in_body ns e) (λ t. then_fun (part_terms d in_body ns es) (λ us. Ok (t ∷ us))) ts h in
       let b = then_ok (part_terms d in_body ns es) (λ us. Ok (a.0 ∷ us)) ts a.2 in
-      let is : a.0 ∷ b.0 ≡ ts = same_terms (a.0 ∷ b.0) ts b.2 in
+      let is : a.0 ∷ b.0 ≡ ts = same_ok (a.0 ∷ b.0) ts b.2 in
       subst (λ us. (vs : List (List ℕ)) × (body_printed d n (of_elements us) ≡ Ok vs)) is (r.0, ap (λ us. parts_printed d in_body n the_expression 1 (of_elements us)) is ∙ r.1)
 
   -- ---- clauses
@@ -103,7 +96,7 @@ module _ (d : Dialect) where
       let body = body_goes ns n k.body c.0 m c.1 in
       let cs = of_elements b.0 in
       let bs = of_elements c.0 in
-      subst (λ x. (u : List ℕ) × (clause_printed d n x ≡ Ok u)) (same_term (triple a.0 (list_term b.0) (list_term c.0)) t c.2) (
+      subst (λ x. (u : List ℕ) × (clause_printed d n x ≡ Ok u)) (same_ok (triple a.0 (list_term b.0) (list_term c.0)) t c.2) (
         _,
         ap (λ z. then_clause (reason_at n the_head z) (λ p. then_clause (parts_printed d in_condition n the_condition 1 cs) (λ gs. then_clause (body_printed d n bs) (λ es. Ok (clause_text p gs es))))) head.1
             ∙ ap (λ z. then_clause z (λ gs. then_clause (body_printed d n bs) (λ es. Ok (clause_text head.0 gs es)))) conditions.1
@@ -111,8 +104,8 @@ module _ (d : Dialect) where
       )
 
   length_by : (b : Bool) (at : ℕ) (ts us : List Tree) → ◌≡◌ {A = OrRefusal (List Tree)} (cond b (Ok ts) (Err (too_large_at at))) (Ok us) → ts ≡ us
-  length_by true at ts us h = same_terms ts us h
-  length_by false at ts us h = absurd (no_term (too_large_at at) us h)
+  length_by true at ts us h = same_ok ts us h
+  length_by false at ts us h = absurd (no_ok (too_large_at at) us h)
 
   -- each guard has expressions, or there are no conditions
   abbrev EachRow : List (List FunExpr) → Type 0
@@ -128,24 +121,15 @@ module _ (d : Dialect) where
   rows_level (g ∷ gs) h = guards_level (g ∷ gs) h
 
   alternatives_printed : (k : FunClause) (gs : List (List FunExpr)) (ts us : List Tree) → EachRow gs → are_exprs k.body ≡ true → EachPrinted ts → with_alternatives d k ts gs ≡ Ok us → EachPrinted us
-  alternatives_printed k [] ts us l m each h = subst EachPrinted (same_terms ts us h) each
+  alternatives_printed k [] ts us l m each h = subst EachPrinted (same_ok ts us h) each
   alternatives_printed k (g ∷ gs) ts us l m each h =
       let a = then_ok (alternative_term d k g) (λ t. then_fun (within_length k.at (ts ++ t ∷ [])) (λ vs. with_alternatives d k vs gs)) us h in
       let b = then_ok (within_length k.at (ts ++ a.0 ∷ [])) (λ vs. with_alternatives d k vs gs) us a.2 in
       let is = length_by (nat_le (length (w (list_term (ts ++ a.0 ∷ [])))) LENGTH) k.at (ts ++ a.0 ∷ []) b.0 b.1 in
       alternatives_printed k gs b.0 us l.1 m (subst EachPrinted is (each_more ts a.0 each (alternative_printed k g a.0 l.0 m a.1))) b.2
 
-  abbrev EachClause : List FunClause → Type 0
-  EachClause [] = Unit {0}
-  EachClause (k ∷ ks) = (is_fun_clause k ≡ true) × EachClause ks
-
-  each_clause : (ks : List FunClause) → are_fun_clauses ks ≡ true → EachClause ks
-  each_clause [] h = tt
-  each_clause (k ∷ []) h = (h, tt)
-  each_clause (k ∷ l ∷ ks) h = let p = and_parts (is_fun_clause k) (are_fun_clauses (l ∷ ks)) h in (p.0, each_clause (l ∷ ks) p.1)
-
   fun_clauses_printed : (ks : List FunClause) (ts us : List Tree) → EachClause ks → EachPrinted ts → with_fun_clauses d ts ks ≡ Ok us → EachPrinted us
-  fun_clauses_printed [] ts us l each h = subst EachPrinted (same_terms ts us h) each
+  fun_clauses_printed [] ts us l each h = subst EachPrinted (same_ok ts us h) each
   fun_clauses_printed (k ∷ ks) ts us l each h =
       let p = and_parts (is_fun_head k.head) (are_guards k.guards && are_exprs k.body) l.0 in
       let q = and_parts (are_guards k.guards) (are_exprs k.body) p.1 in
@@ -164,18 +148,18 @@ module _ (d : Dialect) where
       let a = then_ok (with_fun_clauses d [] ks) (λ ts. Ok (list_term ts)) t h in
       let each = fun_clauses_printed ks [] a.0 (each_clause ks l) tt a.1 in
       let r = all_clauses a.0 1 each in
-      subst (λ x. (text : List ℕ) × (fun_printed d x ≡ Ok text)) (same_term (list_term a.0) t a.2) (fun_text r.0, ap (λ z. then_clause z (λ us. Ok (fun_text us))) r.1)
+      subst (λ x. (text : List ℕ) × (fun_printed d x ≡ Ok text)) (same_ok (list_term a.0) t a.2) (fun_text r.0, ap (λ z. then_clause z (λ us. Ok (fun_text us))) r.1)
 
 pub fun_is_printed : (d : Dialect) (xs : List FunSpan) (ks : List FunClause) (t : Tree) → DerivesFun xs ks → tree_of_fun d ks ≡ Ok t → (text : List ℕ) × (fun_printed d t ≡ Ok text)
 fun_is_printed d xs ks t derives h = clauses_are_printed d ks t derives.clauses h
 
 read_by : (end : ℕ) (r : Result (List FunClause) FunFault) (ks : List FunClause) → read_or_refusal end r ≡ Ok ks → r ≡ Ok ks
 read_by end (Ok js) ks h = let same : js ≡ ks = cc in ap (λ x. Ok x) same
-read_by end (Err r) ks h = absurd (no_term (reading_refusal end r.0 r.1) ks h)
+read_by end (Err r) ks h = absurd (no_ok (reading_refusal end r.0 r.1) ks h)
 
 long_by : (b : Bool) (r : OrRefusal (List FunClause)) (ks : List FunClause) → cond b r (Err too_long) ≡ Ok ks → r ≡ Ok ks
 long_by true r ks h = h
-long_by false r ks h = absurd (no_term too_long ks h)
+long_by false r ks h = absurd (no_ok too_long ks h)
 
 pub text_is_printed : (d : Dialect) (bytes : List ℕ) (t : Tree) → spec_of_text d bytes ≡ Ok t → (text : List ℕ) × (fun_printed d t ≡ Ok text)
 text_is_printed d bytes t h =

@@ -18,9 +18,10 @@ use Rattle.def_fun.specs.Refusals.{FunRefusal, too_large_at, too_deep_at, head_a
 use Rattle.def_fun.specs.Variables.{ClauseNames, ANY, dollar_name, name_of_variable, name_of_whole, matched_part, names_of, variables_in, variables_in_each, is_of_whole, with_name, with_names, number_among, the_whole, anything_there, kind_of_number, variable_kind}
 use Rattle.def_fun.specs.Translation.{VARIABLES, variable_term, is_proper_tail, elements_of_list, onto_tail, are_digits, is_signed, is_variable_atom, pattern_term, pattern_terms, HEAD_DEPTH, within_depth, is_same_name, name_or_none, head_term}
 use Rattle.def_fun.specs.FunTexts.{OrReason, no_head_atom, then_print, numbered_variable, integer_expr, is_character_code, are_character_codes, is_text, string_expr, PrintedPattern, PrintedPatterns, pattern_atom, pattern_of_term, patterns_of_terms, head_of_term}
-use Rattle.def_fun.proofs.NumberedNames.{equal_names, same_name}
+use Rattle.def_fun.proofs.NumberedNames.{equal_names, same_name, other_name}
 use Rattle.def_fun.proofs.Translations.{then_ok}
 use Rattle.def_fun_printing.proofs.NumberAtoms.{number_kind, digits_same}
+use Rattle.def_fun_printing.proofs.Results.{same_ok, no_ok, print_ok}
 
 -- a term that is printed as a pattern after a greatest number, with the greatest number then
 pub record IsPattern (g n : ℕ) (t : Tree) : Type 0 where
@@ -33,22 +34,9 @@ pub record ArePatterns (g n : ℕ) (ts : Trees) : Type 0 where
 
 -- ---- results
 
-same_term : (t u : Tree) → ◌≡◌ {A = OrRefusal Tree} (Ok t) (Ok u) → t ≡ u
-same_term t u h = cc
-
-same_terms : (ts us : List Tree) → ◌≡◌ {A = OrRefusal (List Tree)} (Ok ts) (Ok us) → ts ≡ us
-same_terms ts us h = cc
-
-no_term : {A : Type 0} (e : FunRefusal) (x : A) → ◌≡◌ {A = OrRefusal A} (Err e) (Ok x) → ⊥
-no_term e x h = absurd (cc)
-
-printed_first : {X Y : Type 0} (r : OrReason X) (f : X → OrReason Y) (y : Y) → then_print r f ≡ Ok y → (x : X) × (r ≡ Ok x) × (f x ≡ Ok y)
-printed_first (Ok x) f y h = (x, refl, h)
-printed_first (Err e) f y h = absurd (cc)
-
 -- ---- numbers of names
 
-names_after : (w : Option Name) (ns ss us : List Name) → with_names w ns (ss ++ us) ≡ with_names w (with_names w ns ss) us
+pub names_after : (w : Option Name) (ns ss us : List Name) → with_names w ns (ss ++ us) ≡ with_names w (with_names w ns ss) us
 names_after w ns [] us = refl
 names_after w ns (s ∷ ss) us = names_after w (with_name w ns s) ss us
 
@@ -76,7 +64,7 @@ first_by k n ns more s false e h later =
     let r = later h in
     let least = r.least in
     let most = r.most in
-    let other : bytes_eq n s ≡ false = false_from_ne_true (bytes_eq n s) (λ x. both_ways (bytes_eq s n) e (equal_names s n (sym (same_name n s x)))) in
+    let other = other_name n s e in
     record { number = r.number; is = cond-false (bytes_eq n s) _ _ other ∙ r.is; least = omega (arith, least); most = omega (arith, most) }
 
 among_first : (k : ℕ) (ns more : List Name) (s : Name) → is_among ns s ≡ true → IsAmongFirst k ns more s
@@ -87,10 +75,10 @@ among_first k (n ∷ ns) more s h = first_by k n ns more s (bytes_eq s n) refl h
 last_by : (k : ℕ) (n : Name) (ns more : List Name) (s : Name) (b : Bool) → bytes_eq s n ≡ b → (b || is_among ns s) ≡ false → (is_among ns s ≡ false → number_among (k + 1) (ns ++ s ∷ more) s ≡ Some (length ns + (k + 1))) → number_among k (n ∷ (ns ++ s ∷ more)) s ≡ Some (length (n ∷ ns) + k)
 last_by k n ns more s true e h later = absurd (let no : true ≡ false = h in cc)
 last_by k n ns more s false e h later =
-    let other : bytes_eq n s ≡ false = false_from_ne_true (bytes_eq n s) (λ x. both_ways (bytes_eq s n) e (equal_names s n (sym (same_name n s x)))) in
+    let other = other_name n s e in
     cond-false (bytes_eq n s) _ _ other ∙ later h ∙ ap (λ x. Some x) (let e : length ns + (k + 1) ≡ length (n ∷ ns) + k = omega arith in e)
 
-last_number : (k : ℕ) (ns more : List Name) (s : Name) → is_among ns s ≡ false → number_among k (ns ++ s ∷ more) s ≡ Some (length ns + k)
+pub last_number : (k : ℕ) (ns more : List Name) (s : Name) → is_among ns s ≡ false → number_among k (ns ++ s ∷ more) s ≡ Some (length ns + k)
 last_number k [] more s h = cond-true (bytes_eq s s) _ _ (equal_names s s refl) ∙ ap (λ x. Some x) (let e : k ≡ 0 + k = omega arith in e)
 last_number k (n ∷ ns) more s h = last_by k n ns more s (bytes_eq s n) refl h (λ g. last_number (k + 1) ns more s g)
 
@@ -107,8 +95,8 @@ variable_pattern g k n small least most e = record {
 
 -- a variable after these names, with more names after it
 number_by : (g k n at : ℕ) (b : Bool) (t : Tree) → nat_le k VARIABLES ≡ b → 1 ≤ k → k ≤ g + 1 → max g k ≡ n → cond b (Ok (term.atom (dollar_name k))) (Err (too_large_at at)) ≡ Ok t → IsPattern g n t
-number_by g k n at true t small least most e h = subst (IsPattern g n) (same_term (term.atom (dollar_name k)) t h) (variable_pattern g k n (leb-true k VARIABLES small) least most e)
-number_by g k n at false t small least most e h = absurd (no_term (too_large_at at) t h)
+number_by g k n at true t small least most e h = subst (IsPattern g n) (same_ok (term.atom (dollar_name k)) t h) (variable_pattern g k n (leb-true k VARIABLES small) least most e)
+number_by g k n at false t small least most e h = absurd (no_ok (too_large_at at) t h)
 
 module _ (w : Option Name) where
   -- the names at the end
@@ -117,8 +105,8 @@ module _ (w : Option Name) where
 
   kind_by : (ns ss : List Name) (s : Name) (at : ℕ) (x a b : Bool) (t : Tree) → is_of_whole w s ≡ x → bytes_eq s ANY ≡ a → is_among ns s ≡ b
       → variable_term s at (cond x the_whole (cond a anything_there (kind_of_number (number_among 1 (with_names w (cond (x || (a || b)) ns (ns ++ s ∷ [])) ss) s)))) ≡ Ok t → IsPattern (length ns) (length (cond (x || (a || b)) ns (ns ++ s ∷ []))) t
-  kind_by ns ss s at true a b t e f g h = subst (IsPattern _ _) (same_term (word "$_") t h) (record { expr = tree.atom 0 (codes "$_"); is = refl })
-  kind_by ns ss s at false true b t e f g h = subst (IsPattern _ _) (same_term (word "_") t h) (record { expr = tree.variable 0 ANY; is = refl })
+  kind_by ns ss s at true a b t e f g h = subst (IsPattern _ _) (same_ok (word "$_") t h) (record { expr = tree.atom 0 (codes "$_"); is = refl })
+  kind_by ns ss s at false true b t e f g h = subst (IsPattern _ _) (same_ok (word "_") t h) (record { expr = tree.variable 0 ANY; is = refl })
   kind_by ns ss s at false false true t e f g h =
       let grown = names_grow w ns ss in
       let r = among_first 1 ns grown.0 s g in
@@ -172,8 +160,8 @@ atom_pattern g s h =
     record { expr = r.0; is = ap (pattern_atom g s) plain ∙ r.1 }
 
 atom_goes : (g at : ℕ) (s : Name) (b : Bool) (t : Tree) → is_variable_atom s ≡ b → cond b (Err (head_atom s at)) (Ok (term.atom s)) ≡ Ok t → IsPattern g g t
-atom_goes g at s true t e h = absurd (no_term (head_atom s at) t h)
-atom_goes g at s false t e h = subst (IsPattern g g) (same_term (term.atom s) t h) (atom_pattern g s e)
+atom_goes g at s true t e h = absurd (no_ok (head_atom s at) t h)
+atom_goes g at s false t e h = subst (IsPattern g g) (same_ok (term.atom s) t h) (atom_pattern g s e)
 
 -- ---- lists
 
@@ -217,7 +205,7 @@ inside_by g n ts true e p =
     let same : g ≡ n = pattern_same (string_expr ts, g) (p.expr, n) (sym (cond-true (is_text ts) _ _ e) ∙ p.is) in
     subst (λ m. ArePatterns g m ts) same (text_patterns g ts e)
 inside_by g n ts false e p =
-    let a = printed_first (patterns_of_terms g ts) (λ q. Ok (tree.list 0 q.0, q.1)) (p.expr, n) (sym (cond-false (is_text ts) _ _ e) ∙ p.is) in
+    let a = print_ok (patterns_of_terms g ts) (λ q. Ok (tree.list 0 q.0, q.1)) (p.expr, n) (sym (cond-false (is_text ts) _ _ e) ∙ p.is) in
     record { exprs = a.0.0; are = a.1 ∙ ap (λ m. Ok (a.0.0, m)) (pattern_same (tree.list 0 a.0.0, a.0.1) (p.expr, n) a.2) }
 
 inside : (g n : ℕ) (ts : Trees) → IsPattern g n (term.list ts) → ArePatterns g n ts
@@ -232,8 +220,8 @@ one_more g m n t ts p q = record {
 joined : (g m n : ℕ) (ts us : List Tree) → ArePatterns g m (of_elements ts) → ArePatterns m n (of_elements us) → ArePatterns g n (of_elements (ts ++ us))
 joined g m n [] us p q = subst (λ x. ArePatterns x n (of_elements us)) (sym (same_greatest (tree.none, g) (p.exprs, m) p.are)) q
 joined g m n (t ∷ ts) us p q =
-    let a = printed_first (pattern_of_term g t) (λ x. then_print (patterns_of_terms x.1 (of_elements ts)) (λ y. Ok (tree.more x.0 y.0, y.1))) (p.exprs, m) p.are in
-    let b = printed_first (patterns_of_terms a.0.1 (of_elements ts)) (λ y. Ok (tree.more a.0.0 y.0, y.1)) (p.exprs, m) a.2 in
+    let a = print_ok (pattern_of_term g t) (λ x. then_print (patterns_of_terms x.1 (of_elements ts)) (λ y. Ok (tree.more x.0 y.0, y.1))) (p.exprs, m) p.are in
+    let b = print_ok (patterns_of_terms a.0.1 (of_elements ts)) (λ y. Ok (tree.more a.0.0 y.0, y.1)) (p.exprs, m) a.2 in
     let same : b.0.1 ≡ m = same_greatest (tree.more a.0.0 b.0.0, b.0.1) (p.exprs, m) b.2 in
     let rest : ArePatterns a.0.1 m (of_elements ts) = record { exprs = b.0.0; are = b.1 ∙ ap (λ x. Ok (b.0.0, x)) same } in
     one_more g a.0.1 n t (of_elements (ts ++ us)) (record { expr = a.0.0; is = a.1 }) (joined a.0.1 m n ts us rest q)
@@ -242,21 +230,21 @@ joined g m n (t ∷ ts) us p q =
 
 proper_if : (b : Bool) (r : OrRefusal Tree) (e : FunRefusal) (t : Tree) → cond b r (Err e) ≡ Ok t → (b ≡ true) × (r ≡ Ok t)
 proper_if true r e t h = (refl, h)
-proper_if false r e t h = absurd (no_term e t h)
+proper_if false r e t h = absurd (no_ok e t h)
 
 onto_by : (at : ℕ) (ts us : List Tree) (t : Tree) (b : Bool) → cond b (Ok (term.list (of_elements (ts ++ us)))) (Err (too_large_at at)) ≡ Ok t → term.list (of_elements (ts ++ us)) ≡ t
-onto_by at ts us t true h = same_term _ t h
-onto_by at ts us t false h = absurd (no_term (too_large_at at) t h)
+onto_by at ts us t true h = same_ok _ t h
+onto_by at ts us t false h = absurd (no_ok (too_large_at at) t h)
 
 -- a proper tail is a list
 is_list_of : (ns : ClauseNames) (e : FunExpr) (t : Tree) → is_proper_tail e ≡ true → pattern_term ns e ≡ Ok t → (ts : Trees) × (t ≡ term.list ts)
 is_list_of ns (tree.variable at s) t h g = absurd (let no : false ≡ true = h in cc)
 is_list_of ns (tree.whole at k) t h g = absurd (let no : false ≡ true = h in cc)
 is_list_of ns (tree.atom at s) t h g = absurd (let no : false ≡ true = h in cc)
-is_list_of ns (tree.strings at s ss) t h g = (of_codes (joined_codes s ss), sym (same_term _ t g))
+is_list_of ns (tree.strings at s ss) t h g = (of_codes (joined_codes s ss), sym (same_ok _ t g))
 is_list_of ns (tree.in_parens at e) t h g = is_list_of ns e t h g
 is_list_of ns (tree.call at s es) t h g = absurd (let no : false ≡ true = h in cc)
-is_list_of ns (tree.list at es) t h g = let a = then_ok (pattern_terms ns es) (λ ts. Ok (term.list (of_elements ts))) t g in (of_elements a.0, sym (same_term _ t a.2))
+is_list_of ns (tree.list at es) t h g = let a = then_ok (pattern_terms ns es) (λ ts. Ok (term.list (of_elements ts))) t g in (of_elements a.0, sym (same_ok _ t a.2))
 is_list_of ns (tree.list_onto at es e) t h g =
     let a = then_ok (pattern_terms ns es) (λ ts. cond (is_proper_tail e) (then_fun (pattern_term ns e) (λ u. onto_tail (first_byte e) ts u)) (Err (list_with_tail (first_byte e)))) t g in
     let b = proper_if (is_proper_tail e) _ (list_with_tail (first_byte e)) t a.2 in
@@ -280,14 +268,14 @@ module _ (w : Option Name) (all : ClauseNames) where
     -- the term of each pattern is printed: `ns` are the names before it, and `rest` those of the head after it
     pub pattern_goes : (e : FunExpr) (ns rest : List Name) (t : Tree) → all ≡ all_names w ns (variables_in e ++ rest) → pattern_term all e ≡ Ok t → IsPattern (length ns) (length (with_names w ns (variables_in e))) t
     pattern_goes (tree.variable at s) ns rest t is h = variable_goes w ns rest s at t (ap (λ x. variable_term s at (variable_kind x s)) (sym is) ∙ h)
-    pattern_goes (tree.whole at k) ns rest t is h = subst (IsPattern _ _) (same_term (term.int (pos k)) t h) (record { expr = tree.whole 0 k; is = refl })
+    pattern_goes (tree.whole at k) ns rest t is h = subst (IsPattern _ _) (same_ok (term.int (pos k)) t h) (record { expr = tree.whole 0 k; is = refl })
     pattern_goes (tree.atom at s) ns rest t is h = atom_goes (length ns) at s (is_variable_atom s) t refl h
-    pattern_goes (tree.strings at s ss) ns rest t is h = subst (IsPattern _ _) (same_term _ t h) (list_pattern (length ns) (length ns) (of_codes (joined_codes s ss)) (codes_patterns (length ns) (joined_codes s ss)))
+    pattern_goes (tree.strings at s ss) ns rest t is h = subst (IsPattern _ _) (same_ok _ t h) (list_pattern (length ns) (length ns) (of_codes (joined_codes s ss)) (codes_patterns (length ns) (joined_codes s ss)))
     pattern_goes (tree.in_parens at e) ns rest t is h = pattern_goes e ns rest t is h
-    pattern_goes (tree.call at s es) ns rest t is h = absurd (no_term (minus_alone at) t h)
+    pattern_goes (tree.call at s es) ns rest t is h = absurd (no_ok (minus_alone at) t h)
     pattern_goes (tree.list at es) ns rest t is h =
         let a = then_ok (pattern_terms all es) (λ ts. Ok (term.list (of_elements ts))) t h in
-        subst (IsPattern _ _) (same_term _ t a.2) (list_pattern _ _ (of_elements a.0) (patterns_go es ns rest a.0 is a.1))
+        subst (IsPattern _ _) (same_ok _ t a.2) (list_pattern _ _ (of_elements a.0) (patterns_go es ns rest a.0 is a.1))
     pattern_goes (tree.list_onto at es e) ns rest t is h =
         let a = then_ok (pattern_terms all es) (λ ts. cond (is_proper_tail e) (then_fun (pattern_term all e) (λ u. onto_tail (first_byte e) ts u)) (Err (list_with_tail (first_byte e)))) t h in
         let b = proper_if (is_proper_tail e) _ (list_with_tail (first_byte e)) t a.2 in
@@ -300,13 +288,13 @@ module _ (w : Option Name) (all : ClauseNames) where
     pattern_goes (tree.tuple at es) ns rest t is h =
         let a = then_ok (pattern_terms all es) (λ ts. Ok (term.tuple (of_elements ts))) t h in
         let p = patterns_go es ns rest a.0 is a.1 in
-        subst (IsPattern _ _) (same_term _ t a.2) (record { expr = tree.tuple 0 p.exprs; is = ap (λ z. then_print z (λ q. Ok (tree.tuple 0 q.0, q.1))) p.are })
-    pattern_goes (tree.before at o (tree.whole here k)) ns rest t is h = subst (IsPattern _ _) (same_term (term.int (neg_ℤ (pos k))) t h) (record { expr = integer_expr (term.int (neg_ℤ (pos k))); is = refl })
-    pattern_goes (tree.before at o e) ns rest t is h = absurd (no_term (minus_alone at) t h)
-    pattern_goes (tree.between at o l r) ns rest t is h = absurd (no_term (minus_alone at) t h)
+        subst (IsPattern _ _) (same_ok _ t a.2) (record { expr = tree.tuple 0 p.exprs; is = ap (λ z. then_print z (λ q. Ok (tree.tuple 0 q.0, q.1))) p.are })
+    pattern_goes (tree.before at o (tree.whole here k)) ns rest t is h = subst (IsPattern _ _) (same_ok (term.int (neg_ℤ (pos k))) t h) (record { expr = integer_expr (term.int (neg_ℤ (pos k))); is = refl })
+    pattern_goes (tree.before at o e) ns rest t is h = absurd (no_ok (minus_alone at) t h)
+    pattern_goes (tree.between at o l r) ns rest t is h = absurd (no_ok (minus_alone at) t h)
 
     patterns_go : (es : FunExprs) (ns rest : List Name) (ts : List Tree) → all ≡ all_names w ns (variables_in_each es ++ rest) → pattern_terms all es ≡ Ok ts → ArePatterns (length ns) (length (with_names w ns (variables_in_each es))) (of_elements ts)
-    patterns_go tree.none ns rest ts is h = subst (λ us. ArePatterns (length ns) (length ns) (of_elements us)) (same_terms [] ts h) (record { exprs = tree.none; are = refl })
+    patterns_go tree.none ns rest ts is h = subst (λ us. ArePatterns (length ns) (length ns) (of_elements us)) (same_ok [] ts h) (record { exprs = tree.none; are = refl })
     patterns_go (tree.more e es) ns rest ts is h =
         let a = then_ok (pattern_term all e) (λ t. then_fun (pattern_terms all es) (λ us. Ok (t ∷ us))) ts h in
         let b = then_ok (pattern_terms all es) (λ us. Ok (a.0 ∷ us)) ts a.2 in
@@ -315,7 +303,7 @@ module _ (w : Option Name) (all : ClauseNames) where
         let first = pattern_goes e ns (variables_in_each es ++ rest) a.0 split a.1 in
         let later = patterns_go es vs rest b.0 (split ∙ moved w ns (variables_in e) (variables_in_each es ++ rest)) b.1 in
         let p = one_more (length ns) (length vs) (length (with_names w vs (variables_in_each es))) a.0 (of_elements b.0) first later in
-        subst (λ us. ArePatterns (length ns) (length (with_names w ns (variables_in_each (tree.more e es)))) (of_elements us)) (same_terms (a.0 ∷ b.0) ts b.2) (subst (λ m. ArePatterns (length ns) m (term.more a.0 (of_elements b.0))) (sym (ap length (names_after w ns (variables_in e) (variables_in_each es)))) p)
+        subst (λ us. ArePatterns (length ns) (length (with_names w ns (variables_in_each (tree.more e es)))) (of_elements us)) (same_ok (a.0 ∷ b.0) ts b.2) (subst (λ m. ArePatterns (length ns) m (term.more a.0 (of_elements b.0))) (sym (ap length (names_after w ns (variables_in e) (variables_in_each es)))) p)
 
 -- ---- heads
 
@@ -328,11 +316,11 @@ whole_head_printed (term.pid k) n p = ((p.expr, n), p.is)
 whole_head_printed (term.tuple ts) n p = ((p.expr, n), p.is)
 
 depth_by : (b : Bool) (at : ℕ) (t u : Tree) → cond b (Ok t) (Err (too_deep_at at)) ≡ Ok u → t ≡ u
-depth_by true at t u h = same_term t u h
-depth_by false at t u h = absurd (no_term (too_deep_at at) u h)
+depth_by true at t u h = same_ok t u h
+depth_by false at t u h = absurd (no_ok (too_deep_at at) u h)
 
 same_if : (b : Bool) (e : FunRefusal) (r : OrRefusal Tree) (t : Tree) → cond b (Err e) r ≡ Ok t → r ≡ Ok t
-same_if true e r t h = absurd (no_term e t h)
+same_if true e r t h = absurd (no_ok e t h)
 same_if false e r t h = h
 
 head_by : (h : FunHead) (t : Tree) → pattern_term (names_of h) (matched_part h) ≡ Ok t → (p : PrintedPattern) × (head_of_term t ≡ Ok p)

@@ -24,6 +24,7 @@ use Rattle.def_fun.specs.FunTexts.{OrReason, no_dollar_atom, then_print, numbere
 use Rattle.def_fun.proofs.Translations.{then_ok}
 use Rattle.def_fun_printing.proofs.NumberAtoms.{number_kind}
 use Rattle.def_fun_printing.proofs.CallNames.{plain_call, printed_as_call, call_may, no_const_name, printed_between}
+use Rattle.def_fun_printing.proofs.Results.{same_ok, no_ok, print_ok, neither}
 
 -- a term that is printed. `c` is the value that it has as a constant: printing finds no other, but where a list keeps it
 pub record IsPrinted (d : Dialect) (part : Position) (t : Tree) (c : Option Tree) : Type 0 where
@@ -38,18 +39,6 @@ pub record ArePrinted (d : Dialect) (part : Position) (ts : Trees) (cs : Option 
 
 -- ---- results
 
-same_expr : (x y : TranslatedExpr) → ◌≡◌ {A = OrRefusal TranslatedExpr} (Ok x) (Ok y) → x ≡ y
-same_expr x y h = cc
-
-same_exprs : (xs ys : List TranslatedExpr) → ◌≡◌ {A = OrRefusal (List TranslatedExpr)} (Ok xs) (Ok ys) → xs ≡ ys
-same_exprs xs ys h = cc
-
-same_term : (t u : Tree) → ◌≡◌ {A = OrRefusal Tree} (Ok t) (Ok u) → t ≡ u
-same_term t u h = cc
-
-no_term : {A : Type 0} (e : FunRefusal) (x : A) → ◌≡◌ {A = OrRefusal A} (Err e) (Ok x) → ⊥
-no_term e x h = absurd (cc)
-
 none_some : (v : Tree) → ◌≡◌ {A = Option Tree} None (Some v) → ⊥
 none_some v h = absurd (cc)
 
@@ -59,10 +48,6 @@ no_value o v e h = none_some v (sym e ∙ h)
 true_false : (b : Bool) → b ≡ true → b ≡ false → ⊥
 true_false true h g = absurd (let no : true ≡ false = g in cc)
 true_false false h g = absurd (let no : false ≡ true = h in cc)
-
-neither : (a b : Bool) → (a || b) ≡ false → (a ≡ false) × (b ≡ false)
-neither true b h = absurd (let no : true ≡ false = h in cc)
-neither false b h = (refl, h)
 
 -- the values of a row
 both_there : (o : Option Tree) (p : Option (List Tree)) (vs : List Tree) → with_constant o p ≡ Some vs → (v : Tree) × (ws : List Tree) × (o ≡ Some v) × (p ≡ Some ws) × (vs ≡ v ∷ ws)
@@ -86,10 +71,6 @@ unless_is t true false r h = absurd (let no : true ≡ false = h refl in cc)
 unless_is t false true r h = refl
 unless_is t false false r h = refl
 
-printed_first : {X Y : Type 0} (r : OrReason X) (f : X → OrReason Y) (y : Y) → then_print r f ≡ Ok y → (x : X) × (r ≡ Ok x) × (f x ≡ Ok y)
-printed_first (Ok x) f y h = (x, refl, h)
-printed_first (Err e) f y h = absurd (cc)
-
 module _ (d : Dialect) (part : Position) where
   -- ---- variables, integers and atoms
 
@@ -105,14 +86,14 @@ module _ (d : Dialect) (part : Position) where
   the_bindings_printed = record { expr = tree.call 0 (codes "bindings") tree.none; is = refl; value = λ v e l. absurd (none_some v e) }
 
   numbered_by : (k at : ℕ) (b : Bool) (t : Tree) → nat_le k VARIABLES ≡ b → cond b (Ok (term.atom (dollar_name k))) (Err (too_large_at at)) ≡ Ok t → IsPrinted d part t None
-  numbered_by k at true t e h = subst (λ u. IsPrinted d part u None) (same_term (term.atom (dollar_name k)) t h) (numbered k e)
-  numbered_by k at false t e h = absurd (no_term (too_large_at at) t h)
+  numbered_by k at true t e h = subst (λ u. IsPrinted d part u None) (same_ok (term.atom (dollar_name k)) t h) (numbered k e)
+  numbered_by k at false t e h = absurd (no_ok (too_large_at at) t h)
 
   variable_printed : (s : Name) (at : ℕ) (k : VariableKind) (t : Tree) → variable_term s at k ≡ Ok t → IsPrinted d part t None
-  variable_printed s at the_whole t h = subst (λ u. IsPrinted d part u None) (same_term (word "$_") t h) the_object_printed
-  variable_printed s at anything_there t h = subst (λ u. IsPrinted d part u None) (same_term (word "_") t h) (record { expr = tree.variable 0 ANY; is = refl; value = λ v e l. absurd (none_some v e) })
+  variable_printed s at the_whole t h = subst (λ u. IsPrinted d part u None) (same_ok (word "$_") t h) the_object_printed
+  variable_printed s at anything_there t h = subst (λ u. IsPrinted d part u None) (same_ok (word "_") t h) (record { expr = tree.variable 0 ANY; is = refl; value = λ v e l. absurd (none_some v e) })
   variable_printed s at (of_number k) t h = numbered_by k at (nat_le k VARIABLES) t refl h
-  variable_printed s at of_no_head t h = absurd (no_term _ t h)
+  variable_printed s at of_no_head t h = absurd (no_ok _ t h)
 
   int_printed : (z : ℤ) → IsPrinted d part (term.int z) (Some (term.int z))
   int_printed z = record { expr = integer_expr (term.int z); is = refl; value = λ v e l. e }
@@ -167,8 +148,8 @@ module _ (d : Dialect) (part : Position) where
   elements_printed : (ts us : List Tree) (es fs : FunExprs) → exprs_of_terms d part (of_elements ts) ≡ Ok es → exprs_of_terms d part (of_elements us) ≡ Ok fs → (gs : FunExprs) × (exprs_of_terms d part (of_elements (ts ++ us)) ≡ Ok gs)
   elements_printed [] us es fs h k = (fs, k)
   elements_printed (t ∷ ts) us es fs h k =
-      let a = printed_first (expr_of_term d part t) (λ e. then_print (exprs_of_terms d part (of_elements ts)) (λ xs. Ok (tree.more e xs))) es h in
-      let b = printed_first (exprs_of_terms d part (of_elements ts)) (λ xs. Ok (tree.more a.0 xs)) es a.2 in
+      let a = print_ok (expr_of_term d part t) (λ e. then_print (exprs_of_terms d part (of_elements ts)) (λ xs. Ok (tree.more e xs))) es h in
+      let b = print_ok (exprs_of_terms d part (of_elements ts)) (λ xs. Ok (tree.more a.0 xs)) es a.2 in
       let r = elements_printed ts us b.0 fs b.1 k in
       (tree.more a.0 r.0, ap (λ z. then_print z (λ e. then_print (exprs_of_terms d part (of_elements (ts ++ us))) (λ xs. Ok (tree.more e xs)))) a.1 ∙ ap (λ z. then_print z (λ xs. Ok (tree.more a.0 xs))) r.1)
 
@@ -190,7 +171,7 @@ module _ (d : Dialect) (part : Position) where
   -- so has each list that is printed
   inside_by : (ts : Trees) (e : FunExpr) (b : Bool) → is_text ts ≡ b → expr_of_term d part (term.list ts) ≡ Ok e → (es : FunExprs) × (exprs_of_terms d part ts ≡ Ok es)
   inside_by ts e true h g = text_printed ts h
-  inside_by ts e false h g = let a = printed_first (exprs_of_terms d part ts) (λ es. Ok (tree.list 0 es)) e (sym (cond-false (is_text ts) _ _ h) ∙ g) in (a.0, a.1)
+  inside_by ts e false h g = let a = print_ok (exprs_of_terms d part ts) (λ es. Ok (tree.list 0 es)) e (sym (cond-false (is_text ts) _ _ h) ∙ g) in (a.0, a.1)
 
   tail_elements : (t : Tree) (e : FunExpr) → expr_of_term d part t ≡ Ok e → (es : FunExprs) × (exprs_of_terms d part (of_elements (elements_of_list t)) ≡ Ok es)
   tail_elements (term.list ts) e h = let r = inside_by ts e (is_text ts) refl h in (r.0, ap (exprs_of_terms d part) (elements-of ts) ∙ r.1)
@@ -200,8 +181,8 @@ module _ (d : Dialect) (part : Position) where
   tail_elements (term.tuple ts) e h = (tree.none, refl)
 
   onto_by : (at : ℕ) (ts us : List Tree) (t : Tree) (b : Bool) → cond b (Ok (term.list (of_elements (ts ++ us)))) (Err (too_large_at at)) ≡ Ok t → term.list (of_elements (ts ++ us)) ≡ t
-  onto_by at ts us t true h = same_term _ t h
-  onto_by at ts us t false h = absurd (no_term (too_large_at at) t h)
+  onto_by at ts us t true h = same_ok _ t h
+  onto_by at ts us t false h = absurd (no_ok (too_large_at at) t h)
 
   onto_printed : (at : ℕ) (ts : List Tree) (u t : Tree) (es : FunExprs) (e : FunExpr) (c : Option Tree) → exprs_of_terms d part (of_elements ts) ≡ Ok es → expr_of_term d part u ≡ Ok e → onto_tail at ts u ≡ Ok t → IsPrinted d part t c
   onto_printed at ts u t es e c h k g =
@@ -342,19 +323,19 @@ module _ (d : Dialect) (part : Position) where
 
   -- what an operator becomes
   between_goes : (at : ℕ) (o : FunOperator) (t u : Tree) (c k : Option Tree) (r : Computation) (x : TranslatedExpr) → computed_if_two o c k ≡ r → is_infix o ≡ true → IsPrinted d part t c → IsPrinted d part u k → operator_translated at o (t ∷ u ∷ []) r ≡ Ok x → IsPrinted d part x.becomes x.constant
-  between_goes at o t u c k (gives v) x e two p q h = subst (λ y. IsPrinted d part y.becomes y.constant) (same_expr (computed_value v) x h) (subst PrintsValue e (two_value o c k))
-  between_goes at o t u c k gives_too_large x e two p q h = absurd (no_term (too_large_at at) x h)
-  between_goes at o t u c k not_computed x e two p q h = subst (λ y. IsPrinted d part y.becomes y.constant) (same_expr _ x h) (between_printed o t u c k two p q e)
+  between_goes at o t u c k (gives v) x e two p q h = subst (λ y. IsPrinted d part y.becomes y.constant) (same_ok (computed_value v) x h) (subst PrintsValue e (two_value o c k))
+  between_goes at o t u c k gives_too_large x e two p q h = absurd (no_ok (too_large_at at) x h)
+  between_goes at o t u c k not_computed x e two p q h = subst (λ y. IsPrinted d part y.becomes y.constant) (same_ok _ x h) (between_printed o t u c k two p q e)
 
   before_goes : (at : ℕ) (o : FunOperator) (t : Tree) (c : Option Tree) (r : Computation) (x : TranslatedExpr) → computed_if_one o c ≡ r → printed_call d part (operator_name o) 1 ≡ prints_before o → IsPrinted d part t c → operator_translated at o (t ∷ []) r ≡ Ok x → IsPrinted d part x.becomes x.constant
-  before_goes at o t c (gives v) x e call p h = subst (λ y. IsPrinted d part y.becomes y.constant) (same_expr (computed_value v) x h) (subst PrintsValue e (one_value o c))
-  before_goes at o t c gives_too_large x e call p h = absurd (no_term (too_large_at at) x h)
-  before_goes at o t c not_computed x e call p h = subst (λ y. IsPrinted d part y.becomes y.constant) (same_expr _ x h) (before_printed o t c call p e)
+  before_goes at o t c (gives v) x e call p h = subst (λ y. IsPrinted d part y.becomes y.constant) (same_ok (computed_value v) x h) (subst PrintsValue e (one_value o c))
+  before_goes at o t c gives_too_large x e call p h = absurd (no_ok (too_large_at at) x h)
+  before_goes at o t c not_computed x e call p h = subst (λ y. IsPrinted d part y.becomes y.constant) (same_ok _ x h) (before_printed o t c call p e)
 
   minus_goes : (at : ℕ) (t : Tree) (c : Option Tree) (r : Computation) (x : TranslatedExpr) → computed_if_one op.minus c ≡ r → prefix_translated at op.minus t r ≡ Ok x → IsPrinted d part x.becomes x.constant
-  minus_goes at t c (gives v) x e h = subst (λ y. IsPrinted d part y.becomes y.constant) (same_expr (computed_value v) x h) (subst PrintsValue e (one_value op.minus c))
-  minus_goes at t c gives_too_large x e h = absurd (no_term (too_large_at at) x h)
-  minus_goes at t c not_computed x e h = absurd (no_term _ x h)
+  minus_goes at t c (gives v) x e h = subst (λ y. IsPrinted d part y.becomes y.constant) (same_ok (computed_value v) x h) (subst PrintsValue e (one_value op.minus c))
+  minus_goes at t c gives_too_large x e h = absurd (no_ok (too_large_at at) x h)
+  minus_goes at t c not_computed x e h = absurd (no_ok _ x h)
 
   prefix_goes : (at : ℕ) (o : FunOperator) (t : Tree) (c : Option Tree) (x : TranslatedExpr) → is_prefix o ≡ true → IsPrinted d part t c → prefix_translated at o t (computed_if_one o c) ≡ Ok x → IsPrinted d part x.becomes x.constant
   prefix_goes at op.minus t c x h p g = minus_goes at t c (computed_if_one op.minus c) x refl g
@@ -372,35 +353,35 @@ module _ (d : Dialect) (part : Position) where
 
   proper_if : (b : Bool) (r : OrRefusal TranslatedExpr) (e : FunRefusal) (x : TranslatedExpr) → cond b r (Err e) ≡ Ok x → r ≡ Ok x
   proper_if true r e x h = h
-  proper_if false r e x h = absurd (no_term e x h)
+  proper_if false r e x h = absurd (no_ok e x h)
 
   module _ (ns : ClauseNames) where
     terms_count : (es : FunExprs) (xs : List TranslatedExpr) → exprs_translated d part ns es ≡ Ok xs → count (of_elements (all_terms xs)) ≡ length (each_expr es)
-    terms_count tree.none xs h = ap (λ ys. count (of_elements (all_terms ys))) (sym (same_exprs [] xs h))
+    terms_count tree.none xs h = ap (λ ys. count (of_elements (all_terms ys))) (sym (same_ok [] xs h))
     terms_count (tree.more e es) xs h =
         let a = then_ok (expr_translated d part ns e) (λ x. then_fun (exprs_translated d part ns es) (λ ys. Ok (x ∷ ys))) xs h in
         let b = then_ok (exprs_translated d part ns es) (λ ys. Ok (a.0 ∷ ys)) xs a.2 in
         let later = terms_count es b.0 b.1 in
-        ap (λ ys. count (of_elements (all_terms ys))) (sym (same_exprs (a.0 ∷ b.0) xs b.2)) ∙ (let n : count (of_elements (all_terms b.0)) + 1 ≡ length (each_expr es) + 1 = omega (arith, later) in n ∙ (let m : length (each_expr es) + 1 ≡ length (each_expr (tree.more e es)) = omega arith in m))
+        ap (λ ys. count (of_elements (all_terms ys))) (sym (same_ok (a.0 ∷ b.0) xs b.2)) ∙ (let n : count (of_elements (all_terms b.0)) + 1 ≡ length (each_expr es) + 1 = omega (arith, later) in n ∙ (let m : length (each_expr es) + 1 ≡ length (each_expr (tree.more e es)) = omega arith in m))
 
     mutual
       -- the term of each expression of a fun is printed
       pub printed : (e : FunExpr) (n : ℕ) (x : TranslatedExpr) → has_level n e ≡ true → expr_translated d part ns e ≡ Ok x → IsPrinted d part x.becomes x.constant
       printed (tree.variable at s) n x l h =
           let a = then_ok (variable_term s at (variable_kind ns s)) (λ t. Ok (no_constant t)) x h in
-          subst (λ y. IsPrinted d part y.becomes y.constant) (same_expr (no_constant a.0) x a.2) (variable_printed s at (variable_kind ns s) a.0 a.1)
-      printed (tree.whole at k) n x l h = subst (λ y. IsPrinted d part y.becomes y.constant) (same_expr _ x h) (int_printed (pos k))
-      printed (tree.atom at s) n x l h = subst (λ y. IsPrinted d part y.becomes y.constant) (same_expr _ x h) (atom_is_printed s)
-      printed (tree.strings at s ss) n x l h = let r = codes_printed (joined_codes s ss) in subst (λ y. IsPrinted d part y.becomes y.constant) (same_expr _ x h) (list_printed (of_codes (joined_codes s ss)) r.0 None r.1)
+          subst (λ y. IsPrinted d part y.becomes y.constant) (same_ok (no_constant a.0) x a.2) (variable_printed s at (variable_kind ns s) a.0 a.1)
+      printed (tree.whole at k) n x l h = subst (λ y. IsPrinted d part y.becomes y.constant) (same_ok _ x h) (int_printed (pos k))
+      printed (tree.atom at s) n x l h = subst (λ y. IsPrinted d part y.becomes y.constant) (same_ok _ x h) (atom_is_printed s)
+      printed (tree.strings at s ss) n x l h = let r = codes_printed (joined_codes s ss) in subst (λ y. IsPrinted d part y.becomes y.constant) (same_ok _ x h) (list_printed (of_codes (joined_codes s ss)) r.0 None r.1)
       printed (tree.in_parens at e) n x l h = printed e 1 x l h
       printed (tree.call at s es) n x l h =
           let a = then_ok (named_fun_call d part s (length (each_expr es)) at) (λ c. then_fun (exprs_translated d part ns es) (λ xs. Ok (call_translated s c xs))) x h in
           let b = then_ok (exprs_translated d part ns es) (λ xs. Ok (call_translated s a.0 xs)) x a.2 in
-          subst (λ y. IsPrinted d part y.becomes y.constant) (same_expr _ x b.2) (call_goes s (length (each_expr es)) at a.0 b.0 (all_constants b.0) (terms_count es b.0 b.1) a.1 (all_printed es b.0 l b.1))
+          subst (λ y. IsPrinted d part y.becomes y.constant) (same_ok _ x b.2) (call_goes s (length (each_expr es)) at a.0 b.0 (all_constants b.0) (terms_count es b.0 b.1) a.1 (all_printed es b.0 l b.1))
       printed (tree.list at es) n x l h =
           let a = then_ok (exprs_translated d part ns es) (λ xs. Ok (record { becomes = list_term (all_terms xs); constant = constant_of list_term (all_constants xs) })) x h in
           let p = all_printed es a.0 l a.1 in
-          subst (λ y. IsPrinted d part y.becomes y.constant) (same_expr _ x a.2) (list_printed (of_elements (all_terms a.0)) p.exprs _ p.are)
+          subst (λ y. IsPrinted d part y.becomes y.constant) (same_ok _ x a.2) (list_printed (of_elements (all_terms a.0)) p.exprs _ p.are)
       printed (tree.list_onto at es e) n x l h =
           let parts = and_parts (has_one es) (have_levels es && has_level 1 e) l in
           let levels = and_parts (have_levels es) (has_level 1 e) parts.1 in
@@ -411,10 +392,10 @@ module _ (d : Dialect) (part : Position) where
           let f = then_ok (onto_tail at_tail (all_terms a.0) c.0.becomes) (λ t. Ok (record { becomes = t; constant = constants_onto (all_constants a.0) c.0.constant })) x c.2 in
           let p = all_printed es a.0 levels.0 a.1 in
           let q = printed e 1 c.0 levels.1 c.1 in
-          subst (λ y. IsPrinted d part y.becomes y.constant) (same_expr _ x f.2) (onto_printed at_tail (all_terms a.0) c.0.becomes f.0 p.exprs q.expr _ p.are q.is f.1)
+          subst (λ y. IsPrinted d part y.becomes y.constant) (same_ok _ x f.2) (onto_printed at_tail (all_terms a.0) c.0.becomes f.0 p.exprs q.expr _ p.are q.is f.1)
       printed (tree.tuple at es) n x l h =
           let a = then_ok (exprs_translated d part ns es) (λ xs. Ok (record { becomes = doubled_tuple (all_terms xs); constant = constant_of (λ vs. term.tuple (of_elements vs)) (all_constants xs) })) x h in
-          subst (λ y. IsPrinted d part y.becomes y.constant) (same_expr _ x a.2) (tuple_printed (of_elements (all_terms a.0)) (all_constants a.0) (all_printed es a.0 l a.1))
+          subst (λ y. IsPrinted d part y.becomes y.constant) (same_ok _ x a.2) (tuple_printed (of_elements (all_terms a.0)) (all_constants a.0) (all_printed es a.0 l a.1))
       printed (tree.before at o e) n x l h =
           let parts = and_parts (is_prefix o) (nat_le n PREFIX_LEVEL && has_level PREFIX_LEVEL e) l in
           let levels = and_parts (nat_le n PREFIX_LEVEL) (has_level PREFIX_LEVEL e) parts.1 in
@@ -430,9 +411,9 @@ module _ (d : Dialect) (part : Position) where
           between_goes at o a.0.becomes b.0.becomes a.0.constant b.0.constant (computed_if_two o a.0.constant b.0.constant) x refl parts.0 (printed f (left_level binding) a.0 levels.0 a.1) (printed g (right_level binding) b.0 levels.1 b.1) b.2
 
       all_printed : (es : FunExprs) (xs : List TranslatedExpr) → have_levels es ≡ true → exprs_translated d part ns es ≡ Ok xs → ArePrinted d part (of_elements (all_terms xs)) (all_constants xs)
-      all_printed tree.none xs l h = subst (λ ys. ArePrinted d part (of_elements (all_terms ys)) (all_constants ys)) (same_exprs [] xs h) (record { exprs = tree.none; are = refl; values = λ vs e k. e })
+      all_printed tree.none xs l h = subst (λ ys. ArePrinted d part (of_elements (all_terms ys)) (all_constants ys)) (same_ok [] xs h) (record { exprs = tree.none; are = refl; values = λ vs e k. e })
       all_printed (tree.more e es) xs l h =
           let levels = and_parts (has_level 1 e) (have_levels es) l in
           let a = then_ok (expr_translated d part ns e) (λ x. then_fun (exprs_translated d part ns es) (λ ys. Ok (x ∷ ys))) xs h in
           let b = then_ok (exprs_translated d part ns es) (λ ys. Ok (a.0 ∷ ys)) xs a.2 in
-          subst (λ ys. ArePrinted d part (of_elements (all_terms ys)) (all_constants ys)) (same_exprs (a.0 ∷ b.0) xs b.2) (one_more (printed e 1 a.0 levels.0 a.1) (all_printed es b.0 levels.1 b.1))
+          subst (λ ys. ArePrinted d part (of_elements (all_terms ys)) (all_constants ys)) (same_ok (a.0 ∷ b.0) xs b.2) (one_more (printed e 1 a.0 levels.0 a.1) (all_printed es b.0 levels.1 b.1))

@@ -1,5 +1,5 @@
 -- The conditions of a clause, and the expressions of its body: what is printed of them, and what that is.
-use Rattle.std.proofs.Common.{◌≡◌, ℕ, ◌+◌, ◌≤◌, max, nat_le, List, [], ◌∷◌, ◌++◌, length, true, false, ◌&&◌, Option, Result, Ok, Err, refl, ap, sym, ◌∙◌, arith, append-nil}
+use Rattle.std.proofs.Common.{◌≡◌, ℕ, ◌+◌, ◌≤◌, max, nat_le, List, [], ◌∷◌, ◌++◌, length, true, false, ◌&&◌, Option, Ok, Err, refl, ap, sym, ◌∙◌, arith, append-nil}
 use Rattle.std.proofs.lemmas.Bool.{and_parts, and_from, cond-true, le-leb}
 use Rattle.def_term.specs.Tree.{Tree, Trees, none, more, count, elements, depth, greatest_depth}
 use Rattle.def_text.specs.Limits.{LIST_LENGTH}
@@ -12,28 +12,19 @@ use Rattle.def_fun.specs.Limits.{is_sized, are_sized, each_sized, is_sized_row, 
 use Rattle.def_fun.specs.Refusals.{too_deep_at, then_fun}
 use Rattle.def_fun.specs.Variables.{ClauseNames}
 use Rattle.def_fun.specs.Translation.{TranslatedExpr, PART_DEPTH, within_depth, expr_translated, part_term, part_terms}
-use Rattle.def_fun.specs.FunTexts.{OrReason, NoFun, ClausePart, then_print, reason_at, then_clause, expr_of_term, exprs_of_terms, expr_text, expr_texts, parts_printed}
+use Rattle.def_fun.specs.FunTexts.{OrReason, ClausePart, then_print, reason_at, then_clause, expr_of_term, exprs_of_terms, expr_text, expr_texts, parts_printed}
 use Rattle.def_fun_printing.proofs.Offsets.{unplaced, unplaced_each, levels_same, nestings_same, sizes_same, count_same, expr_alike}
 use Rattle.def_fun_printing.proofs.ExprsBack.{AreBack, RowBack}
+use Rattle.def_fun_printing.proofs.Results.{same_ok, clause_ok}
 
 -- ---- what is printed
 
-pub clause_ok : {X Y : Type 0} (r : Result X NoFun) (f : X → Result Y NoFun) (y : Y) → then_clause r f ≡ Ok y → (x : X) × (r ≡ Ok x) × (f x ≡ Ok y)
-clause_ok (Ok x) f y h = (x, refl, h)
-clause_ok (Err e) f y h = absurd (cc)
-
-ok_same : {X E : Type 0} (x y : X) → ◌≡◌ {A = Result X E} (Ok x) (Ok y) → x ≡ y
-ok_same x y h = cc
-
 pub reason_ok : {X : Type 0} (n : ℕ) (p : ClausePart) (r : OrReason X) (x : X) → reason_at n p r ≡ Ok x → r ≡ Ok x
-reason_ok n p (Ok y) x h = ap Ok (ok_same y x h)
+reason_ok n p (Ok y) x h = ap Ok (same_ok y x h)
 reason_ok n p (Err e) x h = absurd (cc)
 
-same_texts : (us vs : List (List ℕ)) → ◌≡◌ {A = Result (List (List ℕ)) NoFun} (Ok us) (Ok vs) → us ≡ vs
-same_texts us vs h = cc
-
 pub parts_ok : (d : Dialect) (part : Position) (n : ℕ) (p : ℕ → ClausePart) (k : ℕ) (ts : Trees) (us : List (List ℕ)) → parts_printed d part n p k ts ≡ Ok us → (es : FunExprs) × (exprs_of_terms d part ts ≡ Ok es) × (us ≡ expr_texts es)
-parts_ok d part n p k none us h = (tree.none, refl, sym (same_texts [] us h))
+parts_ok d part n p k none us h = (tree.none, refl, sym (same_ok [] us h))
 parts_ok d part n p k (more t ts) us h =
     let a = clause_ok (reason_at n (p k) (expr_of_term d part t)) (λ x. then_clause (parts_printed d part n p (k + 1) ts) (λ xs. Ok (expr_text x ∷ xs))) us h in
     let b = clause_ok (parts_printed d part n p (k + 1) ts) (λ xs. Ok (expr_text a.0 ∷ xs)) us a.2 in
@@ -41,7 +32,7 @@ parts_ok d part n p k (more t ts) us h =
     let first = reason_ok n (p k) (expr_of_term d part t) a.0 a.1 in (
       tree.more a.0 r.0,
       ap (λ z. then_print z (λ e. then_print (exprs_of_terms d part ts) (λ es. Ok (tree.more e es)))) first ∙ ap (λ z. then_print z (λ es. Ok (tree.more a.0 es))) r.1,
-      sym (same_texts (expr_text a.0 ∷ b.0) us b.2) ∙ ap (λ vs. expr_text a.0 ∷ vs) r.2,
+      sym (same_ok (expr_text a.0 ∷ b.0) us b.2) ∙ ap (λ vs. expr_text a.0 ∷ vs) r.2,
     )
 
 -- ---- a row as the parts of a node
