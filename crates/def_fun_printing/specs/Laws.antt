@@ -47,6 +47,6 @@ abbrev pub PrintedIsAFun : Type 0
 PrintedIsAFun =
     (d : Dialect) (t : Tree) (s : Spec) (text : List ℕ) → spec_of d t ≡ Ok s → is_writable t ≡ true → Fits DEPTH true t → length (w t) ≤ LENGTH → fun_printed d t ≡ Ok text → length text ≤ LENGTH → spec_of_text d text ≡ Ok t
 
--- no longer text is that of a fun, and no fun has a specification with a longer text
+-- no longer text has a specification, nor has any text one whose written text is longer
 abbrev pub TextsAreShort : Type 0
 TextsAreShort = (d : Dialect) (bytes : List ℕ) (t : Tree) → spec_of_text d bytes ≡ Ok t → (length bytes ≤ LENGTH) × (length (w t) ≤ LENGTH)

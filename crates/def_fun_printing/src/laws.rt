@@ -15,8 +15,9 @@ pub fn the_specification_of_a_fun_is_printed()
     ensures texts { TextIsPrinted }
 {}
 
-/// The text that a specification within the limits is printed as has that specification, where neither its own text
-/// nor that of the fun is too long; and each text that has a specification is so.
+/// The text that a specification within the limits is printed as has that specification, where neither its own
+/// written text nor that of the fun is longer than 1,048,576 bytes. No longer text has a specification, nor has any
+/// text one whose written text is longer.
 pub fn a_printed_fun_has_its_specification()
     ensures printed { PrintedIsAFun }
     ensures short { TextsAreShort }
