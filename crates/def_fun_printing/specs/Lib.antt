@@ -1,0 +1,2 @@
+pub mod HeadLevels
+pub mod Laws
