@@ -1,0 +1,5 @@
+pub mod Words
+pub mod WordTexts
+pub mod Notes
+pub mod WordLaws
+pub mod NoteLaws
