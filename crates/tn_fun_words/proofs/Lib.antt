@@ -1,8 +1,0 @@
-pub mod PartLists
-pub mod NameLists
-pub mod Conditions
-pub mod ClauseLists
-pub mod Fronts
-pub mod Reasons
-pub mod NoteLists
-pub mod FunAnswers

@@ -1,4 +1,0 @@
-pub mod Views
-pub mod NoteViews
-pub mod FrontLines
-pub mod FunAnswers
