@@ -1,7 +1,7 @@
 -- The term of a head is read as that of a specification, and binds the variables of the fun; so the term of a fun is a specification.
-use Rattle.std.proofs.Common.{◌≡◌, ◌≢◌, ◌⊎◌, ℕ, ◌+◌, ◌≤◌, ◌==◌, pos, neg_ℤ, nat_le, List, [], ◌∷◌, ◌++◌, length, Bool, true, false, ◌&&◌, ◌||◌, cond, Option, Some, None, Result, Ok, Err, codes, refl, ap, ap₂, sym, ◌∙◌, subst, arith, inl, inr}
+use Rattle.std.proofs.Common.{◌≡◌, ◌≢◌, ◌⊎◌, ℕ, ◌≤◌, pos, neg_ℤ, nat_le, List, [], ◌∷◌, ◌++◌, length, Bool, true, false, ◌&&◌, ◌||◌, cond, Option, Some, None, Ok, Err, refl, ap, sym, ◌∙◌, subst, arith, inl, inr}
 use Rattle.std.specs.Str.{bytes_eq}
-use Rattle.std.proofs.lemmas.Bool.{and_parts, or_cases, or_left, or_right, cond-true, cond-false, leb-true, eq-eqb, both_ways}
+use Rattle.std.proofs.lemmas.Bool.{and_parts, or_cases, or_left, or_right, cond-false, leb-true, eq-eqb}
 use Rattle.def_term.specs.Tree.{Tree, Trees, count, elements, of_elements, depth, triple}
 use Rattle.def_term.specs.Tree as term
 use Rattle.def_term.specs.Names.{Name, word}
@@ -13,15 +13,15 @@ use Rattle.def_text.proofs.Complete.{elements-of, count_of}
 use Rattle.def_spec.specs.Expressions.{Dialect, Position, in_condition, in_body, Exprs, and_expr}
 use Rattle.def_spec.specs.Matching.{Pattern, variable, anything, only_term, in_tuple, in_list, Patterns, no_patterns, and_pattern, occurs, occurs_in_some}
 use Rattle.def_spec.specs.Outcome.{Clause, Spec}
-use Rattle.def_spec.specs.Reading.{Reads, then_read, AtomKind, a_plain_atom, is_dollar_number, atom_kind, is_wildcard, pattern_of_kind, pattern_of, patterns_of, head_of_kind, head_of, exprs_of, expr_of, clause_of_parts, clause_of, clauses_of, spec_of}
+use Rattle.def_spec.specs.Reading.{then_read, is_dollar_number, pattern_of_kind, pattern_of, patterns_of, head_of_kind, head_of, exprs_of, expr_of, clause_of, clauses_of, spec_of}
 use Rattle.def_fun.specs.Trees as tree
 use Rattle.def_fun.specs.Trees.{FunExpr, FunExprs, first_byte, joined_codes, is_variable_expr, is_list_pattern, FunHead, alone, both, FunClause}
 use Rattle.def_fun.specs.Tokens.{FunSpan}
-use Rattle.def_fun.specs.Grammar.{has_level, is_fun_head, are_exprs, are_guards, is_fun_clause, are_fun_clauses, DerivesFun}
+use Rattle.def_fun.specs.Grammar.{has_level, is_fun_head, are_exprs, are_guards, are_fun_clauses, DerivesFun}
 use Rattle.def_fun.specs.Limits.{spec_clauses}
 use Rattle.def_fun.specs.Refusals.{FunRefusal, too_large_at, too_deep_at, head_atom, list_with_tail, minus_alone, whole_head, OrRefusal, then_fun}
 use Rattle.def_fun.specs.Variables.{ClauseNames, ANY, dollar_name, name_of_variable, name_of_whole, matched_part, names_of, variables_in, variables_in_each, is_of_whole, with_name, with_names, number_among, VariableKind, the_whole, anything_there, of_number, of_no_head, kind_of_number, variable_kind}
-use Rattle.def_fun.specs.Translation.{VARIABLES, variable_term, is_proper_tail, elements_of_list, onto_tail, is_variable_atom, negative_integer, pattern_term, pattern_terms, HEAD_DEPTH, PART_DEPTH, within_depth, is_same_name, name_or_none, head_term, list_term, TranslatedExpr, expr_translated, part_term, part_terms, alternative_term, alternatives_of, within_length, with_alternatives, with_fun_clauses, tree_of_fun}
+use Rattle.def_fun.specs.Translation.{VARIABLES, variable_term, is_proper_tail, elements_of_list, onto_tail, is_variable_atom, pattern_term, pattern_terms, HEAD_DEPTH, PART_DEPTH, within_depth, is_same_name, name_or_none, head_term, list_term, expr_translated, part_term, part_terms, alternative_term, alternatives_of, within_length, with_alternatives, with_fun_clauses, tree_of_fun}
 use Rattle.def_fun.proofs.NumberedNames.{same_name, among_numbered}
 use Rattle.def_fun.proofs.Translations.{then_ok, clauses_counted}
 use Rattle.def_fun_printing.proofs.Results.{same_ok, no_ok, read_ok}
@@ -142,14 +142,15 @@ module _ (ns : ClauseNames) where
   rest_read (t ∷ ts) us ps qs h g =
       let a = read_ok (pattern_of t) (λ x. then_read (patterns_of (of_elements ts)) (λ xs. Ok (and_pattern x xs))) ps h in
       let b = read_ok (patterns_of (of_elements ts)) (λ xs. Ok (and_pattern a.0 xs)) ps a.2 in
-      let r = rest_read ts us b.0 qs b.1 g in
-      (and_pattern a.0 r.0,
-      ap (λ z. then_read z (λ x. then_read (patterns_of (of_elements (ts ++ us))) (λ xs. Ok (and_pattern x xs)))) a.1 ∙ ap (λ z. then_read z (λ xs. Ok (and_pattern a.0 xs))) r.1,
-      λ k x.
-          elim (or_cases (occurs k a.0 || occurs_in_some k b.0) (occurs_in_some k qs) (ap (λ z. occurs_in_some k z || occurs_in_some k qs) (same_ok (and_pattern a.0 b.0) ps b.2) ∙ x)) [
-            | inl y ↦ elim (or_cases (occurs k a.0) (occurs_in_some k b.0) y) [ inl z ↦ or_left (occurs k a.0) (occurs_in_some k r.0) z | inr z ↦ or_right (occurs k a.0) (occurs_in_some k r.0) (r.2 k (or_left (occurs_in_some k b.0) (occurs_in_some k qs) z)) ]
-            | inr y ↦ or_right (occurs k a.0) (occurs_in_some k r.0) (r.2 k (or_right (occurs_in_some k b.0) (occurs_in_some k qs) y))
-          ])
+      let r = rest_read ts us b.0 qs b.1 g in (
+        and_pattern a.0 r.0,
+        ap (λ z. then_read z (λ x. then_read (patterns_of (of_elements (ts ++ us))) (λ xs. Ok (and_pattern x xs)))) a.1 ∙ ap (λ z. then_read z (λ xs. Ok (and_pattern a.0 xs))) r.1,
+        λ k x.
+            elim (or_cases (occurs k a.0 || occurs_in_some k b.0) (occurs_in_some k qs) (ap (λ z. occurs_in_some k z || occurs_in_some k qs) (same_ok (and_pattern a.0 b.0) ps b.2) ∙ x)) [
+              | inl y ↦ elim (or_cases (occurs k a.0) (occurs_in_some k b.0) y) [ inl z ↦ or_left (occurs k a.0) (occurs_in_some k r.0) z | inr z ↦ or_right (occurs k a.0) (occurs_in_some k r.0) (r.2 k (or_left (occurs_in_some k b.0) (occurs_in_some k qs) z)) ]
+              | inr y ↦ or_right (occurs k a.0) (occurs_in_some k r.0) (r.2 k (or_right (occurs_in_some k b.0) (occurs_in_some k qs) y))
+            ],
+      )
 
   joined_read : (ts us : List Tree) (ss vs : List Name) → ArePatternsRead (of_elements ts) ss → ArePatternsRead (of_elements us) vs → ArePatternsRead (of_elements (ts ++ us)) (ss ++ vs)
   joined_read [] us ss vs p q = record { patterns = q.patterns; are = q.are; there = λ s k x e. elim (among_joined ss vs s x) [ inl y ↦ absurd (none_there p s k y e) | inr y ↦ q.there s k y e ] }
@@ -163,10 +164,10 @@ module _ (ns : ClauseNames) where
         there = λ s k x e.
             elim (among_joined ss vs s x) [
               | inl y ↦
-                elim (or_cases (occurs k a.0) (occurs_in_some k b.0) (ap (occurs_in_some k) (same_ok (and_pattern a.0 b.0) p.patterns b.2) ∙ p.there s k y e)) [
-                  | inl z ↦ or_left (occurs k a.0) (occurs_in_some k later.0) z
-                  | inr z ↦ or_right (occurs k a.0) (occurs_in_some k later.0) (later.2 k (or_left (occurs_in_some k b.0) (occurs_in_some k q.patterns) z))
-                ]
+                  elim (or_cases (occurs k a.0) (occurs_in_some k b.0) (ap (occurs_in_some k) (same_ok (and_pattern a.0 b.0) p.patterns b.2) ∙ p.there s k y e)) [
+                    | inl z ↦ or_left (occurs k a.0) (occurs_in_some k later.0) z
+                    | inr z ↦ or_right (occurs k a.0) (occurs_in_some k later.0) (later.2 k (or_left (occurs_in_some k b.0) (occurs_in_some k q.patterns) z))
+                  ]
               | inr y ↦ or_right (occurs k a.0) (occurs_in_some k later.0) (later.2 k (or_right (occurs_in_some k b.0) (occurs_in_some k q.patterns) (q.there s k y e)))
             ];
       }
@@ -289,10 +290,10 @@ head_read (both (tree.variable at n) b) t is h =
     let g = both_term (tree.variable at n) b t h in
     elim (or_cases (is_variable_expr b || is_list_pattern b) false is) [
       | inl x ↦
-        elim (or_cases (is_variable_expr b) (is_list_pattern b) x) [
-          | inl v ↦ variable_part (both (tree.variable at n) b) b t refl v (λ s y. sym (ap (is_same_name (Some n)) y) ∙ g.0) g.1
-          | inr l ↦ list_part (both (tree.variable at n) b) b t refl l g.1
-        ]
+          elim (or_cases (is_variable_expr b) (is_list_pattern b) x) [
+            | inl v ↦ variable_part (both (tree.variable at n) b) b t refl v (λ s y. sym (ap (is_same_name (Some n)) y) ∙ g.0) g.1
+            | inr l ↦ list_part (both (tree.variable at n) b) b t refl l g.1
+          ]
       | inr x ↦ absurd (let no : false ≡ true = x in cc)
     ]
 head_read (both (tree.list at es) b) t is h =
@@ -359,11 +360,12 @@ module _ (d : Dialect) where
       let head = head_read k.head a.0 i a.1 in
       let conditions = row_read d in_condition head.pattern ns head.there g b.0 l b.1 in
       let body = row_read d in_body head.pattern ns head.there k.body c.0 (exprs_level k.body m) c.1 in
-      subst (λ x. (r : Clause) × (clause_of d x ≡ Ok r)) (same_ok (triple a.0 (list_term b.0) (list_term c.0)) t c.2)
-      (_,
-      ap (λ z. then_read z (λ p. then_read (exprs_of d in_condition p (of_elements b.0)) (λ x. then_read (exprs_of d in_body p (of_elements c.0)) (λ y. Ok (clause_with p x y))))) head.is
-      ∙ ap (λ z. then_read z (λ x. then_read (exprs_of d in_body head.pattern (of_elements c.0)) (λ y. Ok (clause_with head.pattern x y)))) conditions.1
-      ∙ ap (λ z. then_read z (λ y. Ok (clause_with head.pattern conditions.0 y))) body.1)
+      subst (λ x. (r : Clause) × (clause_of d x ≡ Ok r)) (same_ok (triple a.0 (list_term b.0) (list_term c.0)) t c.2) (
+        _,
+        ap (λ z. then_read z (λ p. then_read (exprs_of d in_condition p (of_elements b.0)) (λ x. then_read (exprs_of d in_body p (of_elements c.0)) (λ y. Ok (clause_with p x y))))) head.is
+            ∙ ap (λ z. then_read z (λ x. then_read (exprs_of d in_body head.pattern (of_elements c.0)) (λ y. Ok (clause_with head.pattern x y)))) conditions.1
+            ∙ ap (λ z. then_read z (λ y. Ok (clause_with head.pattern conditions.0 y))) body.1,
+      )
 
   abbrev EachRead : List Tree → Type 0
   EachRead [] = Unit {0}

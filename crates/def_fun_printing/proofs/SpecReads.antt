@@ -1,18 +1,16 @@
 -- The term of a fun is read as a specification.
-use Rattle.std.proofs.Common.{◌≡◌, ◌⊎◌, ℕ, ◌+◌, ◌≤◌, ◌==◌, ℤ, pos, neg_ℤ, nat_le, List, [], ◌∷◌, ◌++◌, length, Bool, true, false, not, ◌&&◌, ◌||◌, cond, Option, Some, None, Result, Ok, Err, codes, refl, ap, ap₂, sym, ◌∙◌, subst, arith, append-nil, inl, inr}
+use Rattle.std.proofs.Common.{◌≡◌, ℕ, ◌+◌, ◌==◌, ℤ, pos, nat_le, List, [], ◌∷◌, ◌++◌, length, Bool, true, false, not, ◌&&◌, ◌||◌, cond, Option, Some, None, Ok, Err, codes, refl, ap, sym, ◌∙◌, subst, arith, inl, inr}
 use Rattle.std.specs.Str.{bytes_eq}
-use Rattle.std.proofs.lemmas.Bool.{and_parts, and_left, or_cases, or_left, or_right, cond-true, cond-false, leb-true, eq-eqb, both_ways}
+use Rattle.std.proofs.lemmas.Bool.{and_parts, and_left, or_cases, cond-true, cond-false, leb-true}
 use Rattle.def_term.specs.Tree.{Tree, Trees, count, elements, of_elements, depth, triple}
 use Rattle.def_term.specs.Tree as term
 use Rattle.def_term.specs.Names.{Name, word}
-use Rattle.def_term.specs.Text.{is_among}
 use Rattle.def_text.specs.Grammar.{of_codes}
 use Rattle.def_text.specs.Limits.{in_range, LIST_LENGTH}
 use Rattle.def_text.proofs.Complete.{elements-of}
-use Rattle.def_spec.specs.Expressions.{Dialect, for_calls, for_sends, for_receives, Position, in_condition, in_body, Expr, list_of, tuple_of, Exprs, no_exprs, and_expr}
-use Rattle.def_spec.specs.Matching.{Pattern, variable, anything, only_term, in_tuple, in_list, Patterns, no_patterns, and_pattern, occurs, occurs_in_some}
-use Rattle.def_spec.specs.Outcome.{Clause, Spec}
-use Rattle.def_spec.specs.Reading.{Reads, then_read, AtomKind, a_variable, a_wrong_variable, a_plain_atom, is_dollar_number, atom_kind, is_wildcard, pattern_of_kind, pattern_of, patterns_of, head_of_kind, head_of, Callee, has_action, named_call, call_of, atom_expr_of_kind, is_constant, expr_of, exprs_of, clause_of_parts, clause_of, clauses_of, spec_of}
+use Rattle.def_spec.specs.Expressions.{Dialect, for_calls, for_sends, for_receives, Position, in_condition, in_body, Expr, list_of, tuple_of, Exprs, and_expr}
+use Rattle.def_spec.specs.Matching.{Pattern, occurs}
+use Rattle.def_spec.specs.Reading.{Reads, then_read, is_dollar_number, has_action, named_call, call_of, atom_expr_of_kind, is_constant, expr_of, exprs_of}
 use Rattle.def_fun.specs.Operators as op
 use Rattle.def_fun.specs.Operators.{FunOperator, operator_name, operator_binding, level_of, left_level, right_level, PREFIX_LEVEL, is_infix, is_prefix}
 use Rattle.def_fun.specs.Trees as tree
@@ -22,7 +20,7 @@ use Rattle.def_fun.specs.Refusals.{FunRefusal, too_large_at, list_with_tail, OrR
 use Rattle.def_fun.specs.Variables.{ClauseNames, VariableKind, the_whole, anything_there, of_number, of_no_head, variable_kind, dollar_name}
 use Rattle.def_fun.specs.Constants.{Computation, not_computed, gives, gives_too_large, gives_any, gives_any_truth, or_computed, if_integers, if_integer, of_two_terms, if_truths, truth_value, if_negation}
 use Rattle.def_fun.specs.Calls.{FunFunction, fun_functions, FunAction, fun_actions, is_function_of, is_action_of, may_call, FunCall, the_object, the_bindings, a_call, named_fun_call}
-use Rattle.def_fun.specs.Translation.{VARIABLES, variable_term, is_proper_tail, elements_of_list, onto_tail, TranslatedExpr, no_constant, constant_as, computed_value, begins_with_dollar, atom_term, all_terms, all_constants, constant_of, list_term, doubled_tuple, name_tuple, constants_onto, operator_translated, prefix_translated, computed_if_one, computed_if_two, call_translated, expr_translated, exprs_translated}
+use Rattle.def_fun.specs.Translation.{VARIABLES, variable_term, is_proper_tail, elements_of_list, onto_tail, TranslatedExpr, no_constant, constant_as, computed_value, begins_with_dollar, atom_term, all_terms, all_constants, constant_of, list_term, doubled_tuple, constants_onto, operator_translated, prefix_translated, computed_if_one, computed_if_two, call_translated, expr_translated, exprs_translated}
 use Rattle.def_fun.proofs.NumberedNames.{same_name}
 use Rattle.def_fun.proofs.Translations.{then_ok}
 use Rattle.def_fun_printing.proofs.Results.{same_ok, no_ok, read_ok}
@@ -73,10 +71,10 @@ action_read d (f ∷ fs) s n all h =
     let p = and_parts (not (has_action d f.action) || is_read (named_call d in_body f.name f.arguments)) (actions_read d fs) all in
     elim (or_cases (bytes_eq f.name s && nat_le n f.arguments && nat_le f.arguments n && has_action d f.action) (is_action_of d fs s n) h) [
       | inl a ↦
-        (let e = and_parts (bytes_eq f.name s && nat_le n f.arguments && nat_le f.arguments n) (has_action d f.action) a in
-        let b = and_parts (bytes_eq f.name s && nat_le n f.arguments) (nat_le f.arguments n) e.0 in
-        let c = and_parts (bytes_eq f.name s) (nat_le n f.arguments) b.0 in
-        moved_read d in_body s f.name n f.arguments c.0 c.1 b.1 (if_has (has_action d f.action) _ p.0 e.1))
+          (let e = and_parts (bytes_eq f.name s && nat_le n f.arguments && nat_le f.arguments n) (has_action d f.action) a in
+          let b = and_parts (bytes_eq f.name s && nat_le n f.arguments) (nat_le f.arguments n) e.0 in
+          let c = and_parts (bytes_eq f.name s) (nat_le n f.arguments) b.0 in
+          moved_read d in_body s f.name n f.arguments c.0 c.1 b.1 (if_has (has_action d f.action) _ p.0 e.1))
       | inr a ↦ action_read d fs s n p.1 a
     ]
 
