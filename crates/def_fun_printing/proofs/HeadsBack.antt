@@ -53,7 +53,7 @@ or_joined : (a b c : Bool) → (a || (b || c)) ≡ ((a || b) || c)
 or_joined true b c = refl
 or_joined false b c = refl
 
-among_end : (ns : List Name) (s u : Name) → is_among (ns ++ s ∷ []) u ≡ (is_among ns u || (bytes_eq u s || false))
+pub among_end : (ns : List Name) (s u : Name) → is_among (ns ++ s ∷ []) u ≡ (is_among ns u || (bytes_eq u s || false))
 among_end [] s u = refl
 among_end (n ∷ ns) s u = ap (λ b. bytes_eq u n || b) (among_end ns s u) ∙ or_joined (bytes_eq u n) (is_among ns u) (bytes_eq u s || false)
 

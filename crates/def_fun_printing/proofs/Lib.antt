@@ -16,3 +16,5 @@ pub mod RowsBack
 pub mod ClausesBack
 pub mod FunsBack
 pub mod LawRows
+pub mod SpecReads
+pub mod HeadReads

@@ -139,7 +139,7 @@ signed_digits (c ∷ cs) h a some =
     let no_sign : ((c == 43) || (c == 45)) ≡ false = digit_no_sign c p.0 in
     both_ways (are_digits (c ∷ cs)) (sym (cond-false ((c == 43) || (c == 45)) _ _ no_sign) ∙ h) (sym (digits_same (c ∷ cs)) ∙ a)
 
-no_number : (s : Name) → is_variable_atom s ≡ false → is_dollar_number s ≡ false
+pub no_number : (s : Name) → is_variable_atom s ≡ false → is_dollar_number s ≡ false
 no_number [] h = refl
 no_number (c ∷ []) h = refl
 no_number (c ∷ d ∷ ds) h =
@@ -228,16 +228,16 @@ joined g m n (t ∷ ts) us p q =
 
 -- ---- tails
 
-proper_if : (b : Bool) (r : OrRefusal Tree) (e : FunRefusal) (t : Tree) → cond b r (Err e) ≡ Ok t → (b ≡ true) × (r ≡ Ok t)
+pub proper_if : (b : Bool) (r : OrRefusal Tree) (e : FunRefusal) (t : Tree) → cond b r (Err e) ≡ Ok t → (b ≡ true) × (r ≡ Ok t)
 proper_if true r e t h = (refl, h)
 proper_if false r e t h = absurd (no_ok e t h)
 
-onto_by : (at : ℕ) (ts us : List Tree) (t : Tree) (b : Bool) → cond b (Ok (term.list (of_elements (ts ++ us)))) (Err (too_large_at at)) ≡ Ok t → term.list (of_elements (ts ++ us)) ≡ t
+pub onto_by : (at : ℕ) (ts us : List Tree) (t : Tree) (b : Bool) → cond b (Ok (term.list (of_elements (ts ++ us)))) (Err (too_large_at at)) ≡ Ok t → term.list (of_elements (ts ++ us)) ≡ t
 onto_by at ts us t true h = same_ok _ t h
 onto_by at ts us t false h = absurd (no_ok (too_large_at at) t h)
 
 -- a proper tail is a list
-is_list_of : (ns : ClauseNames) (e : FunExpr) (t : Tree) → is_proper_tail e ≡ true → pattern_term ns e ≡ Ok t → (ts : Trees) × (t ≡ term.list ts)
+pub is_list_of : (ns : ClauseNames) (e : FunExpr) (t : Tree) → is_proper_tail e ≡ true → pattern_term ns e ≡ Ok t → (ts : Trees) × (t ≡ term.list ts)
 is_list_of ns (tree.variable at s) t h g = absurd (let no : false ≡ true = h in cc)
 is_list_of ns (tree.whole at k) t h g = absurd (let no : false ≡ true = h in cc)
 is_list_of ns (tree.atom at s) t h g = absurd (let no : false ≡ true = h in cc)

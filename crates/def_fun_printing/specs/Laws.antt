@@ -30,6 +30,12 @@ abbrev pub DerivedFunIsOne : Type 0
 DerivedFunIsOne =
     (limit : ℕ) (xs : List FunSpan) (ks ls : List FunClause) → DerivesFun xs ks → are_level_heads ks ≡ true → FunFits limit true ks → DerivesFun xs ls → are_level_heads ls ≡ true → FunFits limit true ls → ks ≡ ls
 
+-- ---- translation
+
+-- the term of a fun that some tokens spell is a specification for the same dialect
+abbrev pub FunIsASpecification : Type 0
+FunIsASpecification = (d : Dialect) (xs : List FunSpan) (ks : List FunClause) (t : Tree) → DerivesFun xs ks → tree_of_fun d ks ≡ Ok t → (s : Spec) × (spec_of d t ≡ Ok s)
+
 -- ---- what is printed
 
 -- the specification of a fun that some tokens spell is printed for the same dialect

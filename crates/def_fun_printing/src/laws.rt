@@ -1,5 +1,5 @@
 // The laws of funs that are read, and of printed funs.
-ghost use Rattle.def_fun_printing.specs.Laws.{DerivedFunIsRead, DerivedFunIsOne};
+ghost use Rattle.def_fun_printing.specs.Laws.{DerivedFunIsRead, DerivedFunIsOne, FunIsASpecification};
 ghost use Rattle.def_fun_printing.specs.Laws.{FunIsPrinted, TextIsPrinted, PrintedIsAFun, TextsAreShort};
 
 /// A fun that tokens spell within the limits is read, and they spell one at most, where each list with a tail in a
@@ -7,6 +7,11 @@ ghost use Rattle.def_fun_printing.specs.Laws.{FunIsPrinted, TextIsPrinted, Print
 pub fn a_fun_that_is_spelled_is_read()
     ensures read { DerivedFunIsRead }
     ensures one { DerivedFunIsOne }
+{}
+
+/// The term that a fun is translated to is a specification for the same dialect.
+pub fn the_term_of_a_fun_is_a_specification()
+    ensures { FunIsASpecification }
 {}
 
 /// The specification of a fun is printed for the dialect of its translation, and so is that of a text.
