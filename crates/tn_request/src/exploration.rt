@@ -24,7 +24,7 @@ pub fn exploration_of<'a, 'w: 'a>(
     words: &ExploreArgs<'w>,
     question: SearchQuestion<'a, Global>,
 ) -> ExploreRequest<'a>
-    ensures { IsExplorationAsked words.now question result }
+    ensures { IsExplorationAsked words.now question.entry result }
 {
     ExploreRequest {
         schedule: Schedule::Moves(words.before.as_bytes()),
