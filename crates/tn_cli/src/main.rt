@@ -46,7 +46,6 @@ fn text_of<R: Input + Files + Eprint + AllocGlobal>(
         Some(TextSource::Picks(source)) => picks_of(rt, source),
         Some(TextSource::Moves(source)) => picks_of(rt, source),
         Some(TextSource::Specification(source)) => picks_of(rt, source),
-        Some(TextSource::Trace(source)) => picks_of(rt, source),
     }
 }
 

@@ -7,7 +7,7 @@ use clap::{Arg, ArgAction, Command, value_parser};
 use std::alloc::{AllocError, Global};
 
 /// `--after MOVES`. MOVES may begin with a hyphen: the run refuses it, not the command line.
-pub(crate) fn after<'a>(alloc: Global) -> Arg<'a>
+fn after<'a>(alloc: Global) -> Arg<'a>
     ensures { IsOption (codes "after") result }
 {
     Arg::new(alloc, "after")
@@ -19,7 +19,7 @@ pub(crate) fn after<'a>(alloc: Global) -> Arg<'a>
 }
 
 /// `--control first`, which is not taken beside `--after`.
-pub(crate) fn first_control<'a>(alloc: Global) -> Result<Arg<'a>, AllocError>
+fn first_control<'a>(alloc: Global) -> Result<Arg<'a>, AllocError>
     ensures { IfOk result (IsOption (codes "control")) }
 {
     Arg::new(alloc, "control")
@@ -35,7 +35,7 @@ pub(crate) fn first_control<'a>(alloc: Global) -> Result<Arg<'a>, AllocError>
 const LISTING_ORDERS: &[&str] = &["process", "total"];
 
 /// `--order ORDER`.
-pub(crate) fn listing_order<'a>(alloc: Global) -> Arg<'a>
+fn listing_order<'a>(alloc: Global) -> Arg<'a>
     ensures named { IsOption (codes "order") result }
     ensures value { IsElse (codes "process") result }
 {
@@ -51,7 +51,7 @@ pub(crate) fn listing_order<'a>(alloc: Global) -> Arg<'a>
 }
 
 /// `--session NAME`. NAME may begin with a hyphen, and may be in quotes as atoms are in scripts.
-pub(crate) fn one_session<'a>(alloc: Global) -> Arg<'a>
+fn one_session<'a>(alloc: Global) -> Arg<'a>
     ensures { IsOption (codes "session") result }
 {
     Arg::new(alloc, "session")
@@ -119,7 +119,7 @@ fn sometimes<'a>(alloc: Global) -> Arg<'a>
 }
 
 /// `--max-states N`.
-pub(crate) fn max_states<'a>(alloc: Global) -> Arg<'a>
+fn max_states<'a>(alloc: Global) -> Arg<'a>
     ensures named { IsOption (codes "max-states") result }
     ensures value { IsElse (codes "100000") result }
     ensures range { IsFromTo 1 4294967295 result }

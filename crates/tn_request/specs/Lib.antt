@@ -5,6 +5,5 @@ pub mod TaskFlaws
 pub mod WorkersAsked
 pub mod TrialsAsked
 pub mod Explorations
-pub mod Comparisons
 pub mod ExpectationsAsked
 pub mod InputsAsked

@@ -1,4 +1,0 @@
-mod Pairs
-mod Matches
-mod Prefixes
-mod Rows

@@ -1,3 +1,0 @@
-mod Matches
-mod TermMatches
-mod Searches

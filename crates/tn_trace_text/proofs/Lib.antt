@@ -1,5 +1,0 @@
-pub mod FirstLines
-pub mod Contents
-pub mod MessageFields
-pub mod StackTraces
-pub mod LinesRead
