@@ -18,7 +18,7 @@ _tracenode() {
         *,=) before=${COMP_WORDS[COMP_CWORD - 1]} word= ;;
     esac
     if [ "$COMP_CWORD" -eq 1 ]; then
-        words='run replay round workers explain draw spec fun explore help -h --help -V --version'
+        words='run replay round workers explain draw spec fun explore compare help -h --help -V --version'
         case ${COMP_WORDS[0]} in
             */*) words+=' --prove --install --release' ;;
         esac
@@ -42,7 +42,7 @@ _tracenode() {
                 COMPREPLY=($(compgen -W 'process total' -- "$word"))
                 return
                 ;;
-            --picks-file | --moves-file | --expect | --file | --install | --release)
+            --picks-file | --moves-file | --expect | --file | --trace | --install | --release)
                 _tracenode_files "$word"
                 return
                 ;;
@@ -76,13 +76,14 @@ _tracenode() {
             fun) words='--for --pretty -h --help' ;;
             explore) words='--after --control --order --session --shows --always --never --sometimes'
                 words+=' --max-states --max-output -h --help' ;;
-            help) words='run replay round workers explain draw spec fun explore' ;;
+            compare) words='--trace --prefix --after --control --order --session --max-states --max-output -h --help' ;;
+            help) words='run replay round workers explain draw spec fun explore compare' ;;
         esac
     fi
     COMPREPLY=($(compgen -W "$words" -- "$word"))
     [ "$COMP_CWORD" -gt 1 ] || return
     case $command in
-        run | replay | round | workers | explain | draw) _tracenode_files "$word" ;;
+        run | replay | round | workers | explain | draw | explore | compare) _tracenode_files "$word" ;;
     esac
 }
 

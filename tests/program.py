@@ -17,6 +17,7 @@ sys.dont_write_bytecode = True
 
 import bound_cases
 import command_line_cases
+import comparison_cases
 import document_cases
 import explanation_cases
 import exploration_cases
@@ -80,6 +81,7 @@ SUBJECTS = {
         exploration_cases.bad_patterns,
         exploration_cases.bad_explorations,
     ),
+    "comparison": (comparison_cases.comparisons, comparison_cases.possible_runs, comparison_cases.bad_traces),
     "format": (format_cases.formats, format_cases.schema),
     "bound": (
         bound_cases.bounds,

@@ -1,7 +1,7 @@
-//! The contracts of tn_term, tn_flags and tn_text are complete.
+//! The contracts of tn_term, tn_flags, tn_text and tn_renaming are complete.
 //!
 //! Each function calls one of theirs twice on equal values. It knows no more than the contract, so its proof shows that
-//! the contract leaves one answer. Depends on the three crates, and on the laws of def_text, by which a text spells one
+//! the contract leaves one answer. Depends on the four crates, and on the laws of def_text, by which a text spells one
 //! term or has one refusal.
 #![tactic(auto)]
 
@@ -12,6 +12,7 @@ mod command;
 mod flags;
 mod mfa;
 mod reader;
+mod renamings;
 mod scan;
 mod shared_term;
 mod table;

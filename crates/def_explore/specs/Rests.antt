@@ -1,6 +1,6 @@
 -- Runs to rest, and what is kept of the messages in them (own).
 -- Depends on runs and listings.
-use Rattle.std.specs.Prelude.{◌≡◌, ◌==◌, ℕ, Bool, true, false, List, map, filter}
+use Rattle.std.specs.Prelude.{◌≡◌, ◌==◌, ℕ, Bool, true, false, List, Option, Some, None, map, filter}
 use Rattle.def_term.specs.Tree.{Tree, tuple, pid, more}
 use Rattle.def_term.specs.Alive.{FIRST_PID, PROCESSES}
 use Rattle.def_term.specs.Names.{Name}
@@ -32,7 +32,12 @@ pub data KeptMessages : Type 0 where
   kept_messages : List (List Tree) → KeptMessages
   kept_by_process : List (List (List Tree)) → KeptMessages
 
--- the message is of this process: {trace,Pid,..}
+-- the process that a message is of: {trace,Pid,..}
+abbrev pub message_process : Tree → Option ℕ
+message_process (tuple (more t (more (pid n) ts))) = Some n
+message_process _ = None
+
+-- the message is of this process
 abbrev pub is_of_process : ℕ → Tree → Bool
 is_of_process n (tuple (more t (more (pid m) ts))) = m == n
 is_of_process n _ = false

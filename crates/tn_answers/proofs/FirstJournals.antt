@@ -4,20 +4,10 @@ use Rattle.std.proofs.lemmas.List.{drop_more, drop_all}
 use Rattle.std.specs.Prelude.{Some, slice_get, unwrap_or, ◌||◌}
 use Rattle.std.specs.List.{list_any}
 use Rattle.std.proofs.Math.Bool.{beq}
-use Rattle.std.specs.declared.vec.Vec.{Vec}
 use Rattle.def_spec.specs.Matching.{Pattern}
 use Rattle.def_explore.specs.Answers.{RestEntry}
 use Rattle.def_explore.specs.Words.{shows, shown_by, missed_by}
 use Rattle.tn_answers.specs.AnswerViews.{first_journal}
-use Rattle.tn_explore.specs.Searches.{answer_entry, answer_entries}
-use Rattle.tn_messages.specs.MessageViews.{kept_seen}
-use Rattle.tn_messages.specs.declared.kept_listings.KeptListings.{KeptListings}
-
-pub seen_at : {A : Type 0} (pairs : List (KeptListings A × Vec ℕ A)) (i : ℕ) (pair : KeptListings A × Vec ℕ A) → slice_get pairs i ≡ Some pair → slice_get (answer_entries kept_seen pairs) i ≡ Some (answer_entry kept_seen pair)
-seen_at [] zero pair at = cc
-seen_at [] (suc i) pair at = cc
-seen_at (p ∷ pairs) zero pair at = ap (λ o. Some (answer_entry kept_seen (unwrap_or o p))) at
-seen_at (p ∷ pairs) (suc i) pair at = seen_at pairs i pair at
 
 journal_here : (a : Pattern) (es : List RestEntry) (s b : Bool) (x : RestEntry) → b ≡ shows a x.kept → beq b s ≡ true → first_journal s a (x ∷ es) ≡ Some x.journal
 journal_here a es true true x is same = ap (λ c. cond c (Some x.journal) (shown_by a es)) (sym is)

@@ -13,6 +13,7 @@ use Rattle.def_explore.specs.Output.{session_texts, rest_entry_text, rest_entry_
 use Rattle.tn_explore.specs.Searches.{answer_entry, answer_entries}
 use Rattle.tn_messages.specs.MessageViews.{kept_seen}
 use Rattle.tn_messages.specs.declared.kept_listings.KeptListings.{KeptListings}
+use Rattle.tn_comparison.proofs.Entries.{entry_is}
 
 pub part_more : {X : Type 0} (f : X → List ℕ) (xs : List X) (i : ℕ) (x : X) (now after whole : List ℕ) → i < length xs → x ≡ get_or xs i x → now ++ flat_map f (drop i xs) ≡ whole → after ≡ now ++ f x → after ++ flat_map f (drop (i + 1) xs) ≡ whole
 part_more f xs i x now after whole below is so_far made =
@@ -115,13 +116,6 @@ entry_at_more ss count es i now after whole below so_far made =
 pub entries_end : (ss : List (Name × Name)) (count : ℕ) (es : List RestEntry) (i : ℕ) (now whole : List ℕ) → length es ≤ i → now ++ rest_entry_texts ss count (i + 1) (drop i es) ≡ whole → now ≡ whole
 entries_end ss count es i now whole past so_far = sym (append-nil now) ∙ ap (λ (xs : List RestEntry). now ++ rest_entry_texts ss count (i + 1) xs) (sym (drop_all i es past)) ∙ so_far
 
--- an entry of the search, as the definitions have it
-entry_seen : {A : Type 0} (pairs : List (KeptListings A × Vec ℕ A)) (i : ℕ) (pair : KeptListings A × Vec ℕ A) (e : RestEntry) → slice_get pairs i ≡ Some pair → slice_get (answer_entries kept_seen pairs) i ≡ Some e → e ≡ answer_entry kept_seen pair
-entry_seen [] zero pair e is at = cc
-entry_seen [] (suc i) pair e is at = cc
-entry_seen (p ∷ pairs) zero pair e is at = let same : p ≡ pair = cc in let seen : answer_entry kept_seen p ≡ e = cc in sym seen ∙ ap (answer_entry kept_seen) same
-entry_seen (p ∷ pairs) (suc i) pair e is at = entry_seen pairs i pair e is at
-
 pub never_seen : {A : Type 0} {Q : Type 0} (pairs : List (KeptListings A × Vec ℕ A)) (i : ℕ) (e : RestEntry) → slice_get pairs i ≡ None → slice_get (answer_entries kept_seen pairs) i ≡ Some e → Q
 never_seen [] zero e is at = cc
 never_seen [] (suc i) e is at = cc
@@ -131,7 +125,7 @@ never_seen (p ∷ pairs) (suc i) e is at = never_seen pairs i e is at
 pub entry_written : {A : Type 0} (ss : List (Name × Name)) (count n : ℕ) (pairs : List (KeptListings A × Vec ℕ A)) (i : ℕ) (kept : KeptListings A) (journal : Vec ℕ A) (picks now after : List ℕ) (e : RestEntry) → Some (kept, journal) ≡ slice_get pairs i → slice_get (answer_entries kept_seen pairs) i ≡ Some e
     → picks ≡ journal.items → after ≡ now ++ rest_entry_text ss count n (record { kept = kept_seen kept; journal = picks }) → after ≡ now ++ rest_entry_text ss count n e
 entry_written ss count n pairs i kept journal picks now after e is at same made =
-    made ∙ ap (λ (x : RestEntry). now ++ rest_entry_text ss count n x) ((λ i. record { kept = kept_seen kept; journal = same i }) ∙ sym (entry_seen pairs i (kept, journal) e (sym is) at))
+    made ∙ ap (λ (x : RestEntry). now ++ rest_entry_text ss count n x) ((λ i. record { kept = kept_seen kept; journal = same i }) ∙ entry_is pairs i (kept, journal) e (sym is) at)
 
 pub count_is : {A : Type 0} (pairs : List (KeptListings A × Vec ℕ A)) (n : ℕ) → n ≡ length pairs → n ≡ length (answer_entries kept_seen pairs)
 count_is pairs n is = is ∙ sym (length-map pairs (answer_entry kept_seen))

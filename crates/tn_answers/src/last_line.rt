@@ -6,7 +6,7 @@ use std::alloc::{AllocError, Allocator};
 use tn_text::write_decimal;
 
 /// Appends a number and the word for one, with an s where it isn't one.
-fn put_counted<B: Allocator>(
+pub(crate) fn put_counted<B: Allocator>(
     number: usize,
     word: &[u8],
     out: &mut Vec<u8, B>,

@@ -1,10 +1,12 @@
-//! The text of what an exploration answers: its listings with their journals, or the words for patterns, and how many
-//! states were met.
+//! The text of what an exploration answers: its listings with their journals, the words for patterns, or whether a
+//! trace is possible; and how many states were met.
 //!
-//! Depends on tn_explore (what a search answers), tn_messages (what it keeps), tn_message_pattern and def_explore.
-//! Promises that `search_answer` has the defined text, and says whether what is demanded of a pattern is refuted.
+//! Depends on tn_explore (what a search answers), tn_messages (what it keeps), tn_message_pattern, tn_comparison,
+//! def_explore and def_compare. Promises that `search_answer` has the defined text, and says whether what is demanded
+//! of a pattern is refuted, whether the trace is impossible, and whether more states could change the answer.
 #![tactic(auto)]
 
+mod comparison;
 mod entry;
 mod last_line;
 mod lines;
@@ -13,4 +15,4 @@ mod text;
 mod words;
 
 pub use entry::SessionName;
-pub use text::{SearchAnswer, search_answer};
+pub use text::{SearchAnswer, SearchQuestion, search_answer};

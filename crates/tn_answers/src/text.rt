@@ -2,15 +2,20 @@
 ghost use Rattle.std.specs.Prelude.{◌≡◌, ◌++◌, ◌+◌, ◌<◌, IfOk, OnOk, Some, codes, flat_map, length, map, slice_get};
 ghost use Rattle.def_explore.specs.Answers.{RestEntry};
 ghost use Rattle.def_explore.specs.Output.{closing_line, exploration_text, rest_entry_text, rest_entry_texts};
+ghost use Rattle.def_compare.specs.Answers.{about_patterns, about_trace};
 ghost use Rattle.tn_explore.specs.Searches.{answer_entries};
 ghost use Rattle.tn_messages.specs.MessageViews.{kept_seen};
 ghost use Rattle.tn_answers.specs.AnswerViews.{session_header, session_name_seen};
-ghost use Rattle.tn_answers.specs.SearchAnswers.{IsSearchAnswer, IsWordsAnswer};
+ghost use Rattle.tn_answers.specs.SearchAnswers.{IsSearchAnswer, IsWordsAnswer, search_question_seen};
+ghost use Rattle.tn_comparison.specs.Matches.{trace_question_seen};
+ghost use Rattle.tn_message_pattern.specs.Questions.{pattern_question_seen};
 
+use crate::comparison::{is_impossible, is_settled, put_match};
 use crate::entry::{SessionName, put_entry, put_header};
 use crate::last_line::put_closing;
 use crate::words::put_patterns;
 use std::alloc::{AllocError, Allocator};
+use tn_comparison::TraceQuestion;
 use tn_explore::{Answers, Exploration};
 use tn_message_pattern::PatternQuestion;
 use tn_messages::KeptListings;
@@ -93,11 +98,23 @@ fn put_headers<A: Allocator, B: Allocator>(
     Ok(())
 }
 
-/// What a search answers: its text, and whether what is demanded of a pattern is refuted.
+/// What a search is asked.
+#[derive(Clone, Copy)]
+pub enum SearchQuestion<'a, P: Allocator> {
+    /// The words for these patterns; the listings where there are none.
+    Patterns(&'a [PatternQuestion<P>]),
+    /// Whether this trace is possible.
+    Trace(&'a TraceQuestion<P>),
+}
+
+/// What a search answers.
 #[derive(Drop)]
 pub struct SearchAnswer<A: Allocator> {
     pub text: Vec<u8, A>,
-    pub is_refuted: bool,
+    /// Whether what is demanded of a pattern is refuted, or the trace is impossible.
+    pub is_unmet: bool,
+    /// Whether all states were tried, or the trace is possible.
+    pub is_settled: bool,
 }
 
 /// What an exploration of these sessions answers about patterns.
@@ -111,12 +128,58 @@ fn words_answer<A: Allocator + Copy, P: Allocator>(
 {
     let mut text = Vec::new(alloc);
     put_headers(sessions, &mut text)?;
-    let is_refuted = put_patterns(alloc, questions, exploration, &mut text)?;
+    let is_unmet = put_patterns(alloc, questions, exploration, &mut text)?;
     put_explored(exploration, &mut text)?;
-    Ok(SearchAnswer { text, is_refuted })
+    Ok(SearchAnswer {
+        text,
+        is_unmet,
+        is_settled: exploration.is_complete,
+    })
 }
 
-/// What an exploration of these sessions answers: its listings, or the words for patterns where there are any.
+/// What it answers about patterns: its listings where there are none.
+fn patterns_answer<A: Allocator + Copy, P: Allocator>(
+    alloc: A,
+    sessions: &[SessionName<A>],
+    questions: &[PatternQuestion<P>],
+    exploration: &Exploration<A, KeptListings<A>>,
+) -> Result<SearchAnswer<A>, AllocError>
+    ensures { let asked = about_patterns (map pattern_question_seen questions.now) in
+        IfOk result (IsSearchAnswer sessions.now asked exploration.now) }
+{
+    if questions.is_empty() {
+        return Ok(SearchAnswer {
+            text: exploration_text(alloc, sessions, exploration)?,
+            is_unmet: false,
+            is_settled: exploration.is_complete,
+        });
+    }
+    words_answer(alloc, sessions, questions, exploration)
+}
+
+/// What it answers about a trace.
+fn trace_answer<A: Allocator + Copy, P: Allocator>(
+    alloc: A,
+    sessions: &[SessionName<A>],
+    question: &TraceQuestion<P>,
+    exploration: &Exploration<A, KeptListings<A>>,
+) -> Result<SearchAnswer<A>, AllocError>
+    ensures { let asked = about_trace (trace_question_seen question.now) in
+        IfOk result (IsSearchAnswer sessions.now asked exploration.now) }
+{
+    let mut text = Vec::new(alloc);
+    put_headers(sessions, &mut text)?;
+    let is_possible = put_match(alloc, question, exploration, &mut text)?;
+    put_explored(exploration, &mut text)?;
+    Ok(SearchAnswer {
+        text,
+        is_unmet: is_impossible(exploration.is_complete, is_possible),
+        is_settled: is_settled(exploration.is_complete, is_possible),
+    })
+}
+
+/// What an exploration of these sessions answers: its listings, the words for patterns where there are any, or whether
+/// a trace is possible.
 ///
 /// # Errors
 ///
@@ -124,16 +187,18 @@ fn words_answer<A: Allocator + Copy, P: Allocator>(
 pub fn search_answer<A: Allocator + Copy, P: Allocator>(
     alloc: A,
     sessions: &[SessionName<A>],
-    questions: &[PatternQuestion<P>],
+    question: &SearchQuestion<'_, P>,
     exploration: &Exploration<A, KeptListings<A>>,
 ) -> Result<SearchAnswer<A>, AllocError>
-    ensures { IfOk result (IsSearchAnswer sessions.now questions.now exploration.now) }
+    ensures { IfOk result (IsSearchAnswer sessions.now (search_question_seen question.now) exploration.now) }
 {
-    if questions.is_empty() {
-        return Ok(SearchAnswer {
-            text: exploration_text(alloc, sessions, exploration)?,
-            is_refuted: false,
-        });
+    match question {
+        SearchQuestion::Patterns(questions) => patterns_answer(
+            alloc,
+            sessions,
+            questions,
+            exploration,
+        ),
+        SearchQuestion::Trace(question) => trace_answer(alloc, sessions, question, exploration),
     }
-    words_answer(alloc, sessions, questions, exploration)
 }

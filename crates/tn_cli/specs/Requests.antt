@@ -189,6 +189,26 @@ IsExplorationOf m x =
     × (words_of x.always.now ≡ texts_given m (codes "always"))
     × (words_of x.never.now ≡ texts_given m (codes "never"))
     × (words_of x.sometimes.now ≡ texts_given m (codes "sometimes"))
+    × (x.trace ≡ None)
+    × IsGiven 1 4294967295 (argument m (codes "max-states")) x.max_states
+
+-- it is about no pattern
+pub record IsAboutNoPattern (x : ExploreArgs) : Type 0 where
+  pub shows : x.shows.now ≡ []
+  pub always : x.always.now ≡ []
+  pub never : x.never.now ≡ []
+  pub sometimes : x.sometimes.now ≡ []
+
+-- the script, the first moves, what `--order` and `--session` name, the file of `--trace`, whether `--prefix` is given, and the number of `--max-states`
+abbrev pub IsComparisonOf : ArgMatches → ExploreArgs → Type 0
+IsComparisonOf m x =
+    IsSourceNamed (argument m (codes "script")) x.script
+    × (x.before.now ≡ first_moves m)
+    × (x.order ≡ order_named (unwrap_or (argument m (codes "order")) (codes "process")))
+    × IsTextOf (option_map session_named (argument m (codes "session"))) x.session
+    × IsAboutNoPattern x
+    × IsTextOf (argument m (codes "trace")) x.trace
+    × (x.goes_on ≡ is_given m (codes "prefix"))
     × IsGiven 1 4294967295 (argument m (codes "max-states")) x.max_states
 
 -- a source that is given is the one that the text names
@@ -240,7 +260,7 @@ Asks name m (Workers w) =
     × (w.quiet ≡ is_given m (codes "quiet")) × IsExpectationOf m w.expectation
 Asks name m (Spec trial) = (name ≡ codes "spec") × IsTrialOf m trial
 Asks name m (Fun fun) = (name ≡ codes "fun") × IsFunOf m fun
-Asks name m (Explore exploration) = (name ≡ codes "explore") × IsExplorationOf m exploration
+Asks name m (Explore exploration) = ((name ≡ codes "explore") × IsExplorationOf m exploration) ⊎ ((name ≡ codes "compare") × IsComparisonOf m exploration)
 
 -- the run is a round, whose limit is no number or is out of its bounds
 abbrev pub LacksLimit : ArgMatches → Type 0
@@ -258,6 +278,7 @@ LacksNumber name m =
     ⊎ ((name ≡ codes "workers") × IsSomeAnd (argument m (codes "spread")) (λ text. ¬ (IsPlainNumber text)))
     ⊎ ((name ≡ codes "spec") × NamesNoProcess (unwrap_or (argument m (codes "me")) []))
     ⊎ ((name ≡ codes "explore") × (¬ (IsBetween 1 4294967295 (argument m (codes "max-states")))))
+    ⊎ ((name ≡ codes "compare") × (¬ (IsBetween 1 4294967295 (argument m (codes "max-states")))))
 
 -- the subcommand that was found lacks a number
 pub record IsWithoutNumber (m : ArgMatches) : Type 0 where
@@ -271,7 +292,7 @@ pub record IsWithoutNumber (m : ArgMatches) : Type 0 where
 abbrev pub NamesNoCommand : ArgMatches → Type 0
 NamesNoCommand m =
     (subcommand_name_of m ≢ Some (codes "run")) × (subcommand_name_of m ≢ Some (codes "replay")) × (subcommand_name_of m ≢ Some (codes "explain")) × (subcommand_name_of m ≢ Some (codes "draw")) × (subcommand_name_of m ≢ Some (codes "round"))
-    × (subcommand_name_of m ≢ Some (codes "workers")) × (subcommand_name_of m ≢ Some (codes "spec")) × (subcommand_name_of m ≢ Some (codes "fun")) × (subcommand_name_of m ≢ Some (codes "explore"))
+    × (subcommand_name_of m ≢ Some (codes "workers")) × (subcommand_name_of m ≢ Some (codes "spec")) × (subcommand_name_of m ≢ Some (codes "fun")) × (subcommand_name_of m ≢ Some (codes "explore")) × (subcommand_name_of m ≢ Some (codes "compare"))
 
 -- the subcommand that was found asks for it
 pub record IsAskedBy (m : ArgMatches) (ask : Request) : Type 0 where

@@ -46,6 +46,7 @@ fn text_of<R: Input + Files + Eprint + AllocGlobal>(
         Some(TextSource::Picks(source)) => picks_of(rt, source),
         Some(TextSource::Moves(source)) => picks_of(rt, source),
         Some(TextSource::Specification(source)) => picks_of(rt, source),
+        Some(TextSource::Trace(source)) => picks_of(rt, source),
     }
 }
 

@@ -358,6 +358,29 @@ fn exploration<'s, 'a: 's>(matches: &'s ArgMatches<'a>) -> Result<Request<'s>, B
         always: texts(matches, "always"),
         never: texts(matches, "never"),
         sometimes: texts(matches, "sometimes"),
+        trace: None,
+        goes_on: false,
+        max_states,
+    }))
+}
+
+/// What `compare` asks for.
+fn comparison<'s, 'a: 's>(matches: &'s ArgMatches<'a>) -> Result<Request<'s>, BadValue<'s>>
+    ensures asks { IfOk result (Asks (codes "compare") matches.now) }
+    ensures refused { IfErr result (λ e. LacksNumber (codes "compare") matches.now) }
+{
+    let max_states = number(matches, "max-states", "--max-states <N>", 1, 4294967295)?;
+    Ok(Request::Explore(ExploreArgs {
+        script: script(matches),
+        before: first_moves(matches),
+        order: listing_order(matches.get_str("order").unwrap_or("process")),
+        session: matches.get_str("session").map(session_name),
+        shows: &[],
+        always: &[],
+        never: &[],
+        sometimes: &[],
+        trace: matches.get_str("trace"),
+        goes_on: matches.get_flag("prefix"),
         max_states,
     }))
 }
@@ -380,6 +403,7 @@ pub fn request_of<'s, 'a: 's>(
         Some(("spec", given)) => Ok(Some(spec(given)?)),
         Some(("fun", given)) => Ok(Some(fun(given))),
         Some(("explore", given)) => Ok(Some(exploration(given)?)),
+        Some(("compare", given)) => Ok(Some(comparison(given)?)),
         _ => Ok(None),
     }
 }

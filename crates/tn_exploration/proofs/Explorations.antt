@@ -14,21 +14,25 @@ use Rattle.tn_explore.specs.Searches.{Explores}
 use Rattle.tn_moves.specs.Schedules.{schedule_seen, AreMovesOf}
 use Rattle.tn_search.specs.Sessions.{elements_at}
 use Rattle.tn_search.specs.States.{query_of, is_by_process}
-use Rattle.tn_exploration.specs.Requests.{questions_of, IsSearchText, AreSearchTexts, AddsSearch, AddsSearches, groups_of, IsExplorationFrom, IsExploration}
+use Rattle.def_compare.specs.Answers.{answer_text, is_settled, is_unmet}
+use Rattle.tn_answers.specs.SearchAnswers.{search_question_seen}
+use Rattle.tn_exploration.specs.Requests.{IsSearchText, AreSearchTexts, AddsSearch, AddsSearches, groups_of, IsExplorationFrom, IsExploration}
 use Rattle.tn_exploration.specs.declared.request.ExploreRequest.{ExploreRequest}
 use Rattle.tn_exploration.specs.declared.request.ExploreOutcome.{ExploreOutcome}
 use Rattle.tn_exploration.specs.declared.request.ExploreOutcome.TheVariants.{Complete, Incomplete, Unmet, NoSession, Refused}
 use Rattle.tn_exploration.specs.declared.searches.SearchEnd.{SearchEnd}
 
 -- the text of a search about the sessions at these places
-pub is_search_text : (q : ExploreRequest) (p : Program) (before places : List ℕ) (names : List (Name × Name)) (es : List RestEntry) (states : ℕ) (whole refuted : Bool) (text : List ℕ)
-    → names ≡ elements_at places (creations p.commands) → Explores (query_of (is_by_process q.order) p before places) es q.max_states states whole → text ≡ search_text names (questions_of q) es states whole
-    → refuted ≡ list_any (refutes es whole) (questions_of q) → IsSearchText q p before places text whole refuted
-is_search_text q p before places names es states whole refuted text named searches written demands = record {
+pub is_search_text : (q : ExploreRequest) (p : Program) (before places : List ℕ) (names : List (Name × Name)) (es : List RestEntry) (states : ℕ) (whole settled unmet : Bool) (text : List ℕ)
+    → names ≡ elements_at places (creations p.commands) → Explores (query_of (is_by_process q.order) p before places) es q.max_states states whole → text ≡ answer_text names (search_question_seen q.question) es states whole
+    → settled ≡ is_settled (search_question_seen q.question) es whole → unmet ≡ is_unmet (search_question_seen q.question) es whole → IsSearchText q p before places text settled unmet
+is_search_text q p before places names es states whole settled unmet text named searches written settles demands = record {
   entries = es;
   states = states;
+  whole = whole;
   search = searches;
-  written = written ∙ ap (λ ss. search_text ss (questions_of q) es states whole) named;
+  written = written ∙ ap (λ ss. answer_text ss (search_question_seen q.question) es states whole) named;
+  settles = settles;
   demands = demands;
 }
 
@@ -59,8 +63,8 @@ module _ (q : ExploreRequest) (p : Program) (before : List ℕ) where
   texts_more : (groups : List (List ℕ)) (places text a : List ℕ) (w wa r ra : Bool) → AreSearchTexts q p before groups text w r → IsSearchText q p before places a wa ra
       → AreSearchTexts q p before (groups ++ places ∷ []) (text ++ a) (w && wa) (r || ra)
   texts_more [] places text a w wa r ra (none, all, met) one = (
-    record { text = a; whole = wa; refuted = ra },
-    record { text = []; whole = true; refuted = false },
+    record { text = a; settled = wa; unmet = ra },
+    record { text = []; settled = true; unmet = false },
     one,
     (refl, refl, refl),
     ap (λ t. t ++ a) none ∙ sym (append-nil a),
@@ -69,31 +73,31 @@ module _ (q : ExploreRequest) (p : Program) (before : List ℕ) where
   )
   texts_more (g ∷ gs) places text a w wa r ra (x, y, first, others, is, both, either) one = (
     x,
-    record { text = y.text ++ a; whole = y.whole && wa; refuted = y.refuted || ra },
+    record { text = y.text ++ a; settled = y.settled && wa; unmet = y.unmet || ra },
     first,
-    texts_more gs places y.text a y.whole wa y.refuted ra others one,
+    texts_more gs places y.text a y.settled wa y.unmet ra others one,
     ap (λ t. t ++ a) is ∙ append_assoc x.text y.text a,
-    and_more x.whole y.whole wa w both,
-    or_more x.refuted y.refuted ra r either,
+    and_more x.settled y.settled wa w both,
+    or_more x.unmet y.unmet ra r either,
   )
 
   -- no text yet
-  pub no_searches : (old : List ℕ) → AddsSearches q p before [] old old (record { is_complete = true; is_refuted = false })
+  pub no_searches : (old : List ℕ) → AddsSearches q p before [] old old (record { is_settled = true; is_unmet = false })
   no_searches old = ([], (refl, refl, refl), sym (append-nil old))
 
   -- one more
-  pub search_more : (groups : List (List ℕ)) (places old mid new : List ℕ) (e one both : SearchEnd) → both.is_complete ≡ (e.is_complete && one.is_complete) → both.is_refuted ≡ (e.is_refuted || one.is_refuted)
+  pub search_more : (groups : List (List ℕ)) (places old mid new : List ℕ) (e one both : SearchEnd) → both.is_settled ≡ (e.is_settled && one.is_settled) → both.is_unmet ≡ (e.is_unmet || one.is_unmet)
       → AddsSearches q p before groups old mid e → AddsSearch q p before places mid new one → AddsSearches q p before (groups ++ places ∷ []) old new both
   search_more groups places old mid new e one both whole refuted (text, are, longer) (a, is, more) = (
     text ++ a,
-    subst (λ b. AreSearchTexts q p before (groups ++ places ∷ []) (text ++ a) b both.is_refuted) (sym whole)
-        (subst (AreSearchTexts q p before (groups ++ places ∷ []) (text ++ a) (e.is_complete && one.is_complete)) (sym refuted)
-        (texts_more groups places text a e.is_complete one.is_complete e.is_refuted one.is_refuted are is)),
+    subst (λ b. AreSearchTexts q p before (groups ++ places ∷ []) (text ++ a) b both.is_unmet) (sym whole)
+        (subst (AreSearchTexts q p before (groups ++ places ∷ []) (text ++ a) (e.is_settled && one.is_settled)) (sym refuted)
+        (texts_more groups places text a e.is_settled one.is_settled e.is_unmet one.is_unmet are is)),
     more ∙ ap (λ t. t ++ a) longer ∙ append_assoc old text a,
   )
 
   -- that of the session at the next place
-  pub place_search_more : (places : List ℕ) (i : ℕ) (old mid new : List ℕ) (e one both : SearchEnd) → both.is_complete ≡ (e.is_complete && one.is_complete) → both.is_refuted ≡ (e.is_refuted || one.is_refuted) → i < length places
+  pub place_search_more : (places : List ℕ) (i : ℕ) (old mid new : List ℕ) (e one both : SearchEnd) → both.is_settled ≡ (e.is_settled && one.is_settled) → both.is_unmet ≡ (e.is_unmet || one.is_unmet) → i < length places
       → AddsSearches q p before (map (λ n. n ∷ []) (take i places)) old mid e → AddsSearch q p before (get_or places i 0 ∷ []) mid new one → AddsSearches q p before (map (λ n. n ∷ []) (take (i + 1) places)) old new both
   place_search_more places i old mid new e one both whole refuted below so_far is =
       subst (λ gs. AddsSearches q p before gs old new both)
@@ -106,7 +110,7 @@ module _ (q : ExploreRequest) (p : Program) (before : List ℕ) where
 
   -- where no session is asked about
   pub one_group : (places old new : List ℕ) (e : SearchEnd) → is_empty places ≡ true → AddsSearch q p before places old new e → AddsSearches q p before (groups_of places) old new e
-  one_group [] old new e is one = search_more [] [] old old new (record { is_complete = true; is_refuted = false }) e e refl refl (no_searches old) one
+  one_group [] old new e is one = search_more [] [] old old new (record { is_settled = true; is_unmet = false }) e e refl refl (no_searches old) one
   one_group (n ∷ ns) old new e is one = cc
 
   pub each_group : (places old new : List ℕ) (e : SearchEnd) → is_empty places ≡ false → AddsSearches q p before (map (λ n. n ∷ []) places) old new e → AddsSearches q p before (groups_of places) old new e
@@ -114,8 +118,8 @@ module _ (q : ExploreRequest) (p : Program) (before : List ℕ) where
   each_group (n ∷ ns) old new e is many = many
 
   -- a text that began empty
-  pub texts_of : (groups : List (List ℕ)) (old new : List ℕ) (e : SearchEnd) → old ≡ [] → AddsSearches q p before groups old new e → AreSearchTexts q p before groups new e.is_complete e.is_refuted
-  texts_of groups old new e began (text, are, longer) = subst (λ t. AreSearchTexts q p before groups t e.is_complete e.is_refuted) (sym (longer ∙ ap (λ t. t ++ text) began)) are
+  pub texts_of : (groups : List (List ℕ)) (old new : List ℕ) (e : SearchEnd) → old ≡ [] → AddsSearches q p before groups old new e → AreSearchTexts q p before groups new e.is_settled e.is_unmet
+  texts_of groups old new e began (text, are, longer) = subst (λ t. AreSearchTexts q p before groups t e.is_settled e.is_unmet) (sym (longer ∙ ap (λ t. t ++ text) began)) are
 
 -- by the moves that are asked for
 pub asked_exploration : (q : ExploreRequest) (p : Program) (before : List ℕ) (outcome : ExploreOutcome) (text : List ℕ) → AreMovesOf (schedule_seen q.schedule) p before → IsExplorationFrom q p before outcome text → IsExploration q p outcome text

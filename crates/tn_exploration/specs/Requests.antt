@@ -2,15 +2,13 @@
 use Rattle.std.specs.Prelude.{◌≡◌, ◌&&◌, ◌||◌, ℕ, suc, Bool, true, false, List, [], ◌∷◌, ◌++◌, map, Option, Some, None, is_some, if◌then◌else◌}
 use Rattle.std.specs.Option.{option_map}
 use Rattle.std.specs.Str.{bytes_eq}
-use Rattle.std.specs.List.{list_any}
 use Rattle.def_term.specs.Names.{Name}
 use Rattle.def_script.specs.Program.{Program}
 use Rattle.def_script.specs.Script.{Refusal, creations}
 use Rattle.def_run.specs.Round.{is_empty}
 use Rattle.def_explore.specs.Answers.{RestEntry}
-use Rattle.def_explore.specs.Output.{search_text}
-use Rattle.def_explore.specs.Words.{PatternQuestion, refutes}
-use Rattle.tn_message_pattern.specs.Questions.{pattern_question_seen}
+use Rattle.def_compare.specs.Answers.{answer_text, is_unmet, is_settled}
+use Rattle.tn_answers.specs.SearchAnswers.{search_question_seen}
 use Rattle.tn_explore.specs.Searches.{Explores}
 use Rattle.tn_moves.specs.Schedules.{schedule_seen, AreMovesOf, HasPicks}
 use Rattle.tn_run.specs.Answers.{IsRefusedRun, text_refusal}
@@ -50,30 +48,28 @@ places_of asked p = places_from asked 0 (creations p.commands)
 
 -- ---- what is written
 
--- the patterns that it is about
-abbrev pub questions_of : ExploreRequest → List PatternQuestion
-questions_of q = map pattern_question_seen q.patterns.now
-
--- the text is that of a search through all schedules that begin with a journal, about the sessions at these places; it says whether all states were tried, and whether a demand is refuted
-pub record IsSearchText (q : ExploreRequest) (p : Program) (before places text : List ℕ) (whole refuted : Bool) : Type 0 where
+-- the text is that of a search through all schedules that begin with a journal, about the sessions at these places; it says whether more states could change nothing, and whether a demand is refuted or the trace is impossible
+pub record IsSearchText (q : ExploreRequest) (p : Program) (before places text : List ℕ) (settled unmet : Bool) : Type 0 where
   pub entries : List RestEntry
   pub states : ℕ
+  pub whole : Bool
   pub search : Explores (query_of (is_by_process q.order) p before places) entries q.max_states states whole
-  pub written : text ≡ search_text (elements_at places (creations p.commands)) (questions_of q) entries states whole
-  pub demands : refuted ≡ list_any (refutes entries whole) (questions_of q)
+  pub written : text ≡ answer_text (elements_at places (creations p.commands)) (search_question_seen q.question) entries states whole
+  pub settles : settled ≡ is_settled (search_question_seen q.question) entries whole
+  pub demands : unmet ≡ is_unmet (search_question_seen q.question) entries whole
 
--- the text of a search, whether it tried all states, and whether it refutes a demand
+-- the text of a search, and how it ended
 pub record SearchText : Type 0 where
   pub text : List ℕ
-  pub whole : Bool
-  pub refuted : Bool
+  pub settled : Bool
+  pub unmet : Bool
 
--- the texts of searches, each about the sessions at some places, one after another, whether all of them tried all states, and whether one refutes a demand
-abbrev pub AreSearchTexts : ExploreRequest → Program → List ℕ → List (List ℕ) → List ℕ → (whole refuted : Bool) → Type 0
-AreSearchTexts q p before [] text whole refuted = (text ≡ []) × (whole ≡ true) × (refuted ≡ false)
-AreSearchTexts q p before (places ∷ groups) text whole refuted =
-    (a : SearchText) × (b : SearchText) × IsSearchText q p before places a.text a.whole a.refuted × AreSearchTexts q p before groups b.text b.whole b.refuted
-    × (text ≡ a.text ++ b.text) × (whole ≡ (a.whole && b.whole)) × (refuted ≡ (a.refuted || b.refuted))
+-- the texts of searches, each about the sessions at some places, one after another, whether all of them are settled, and whether one is unmet
+abbrev pub AreSearchTexts : ExploreRequest → Program → List ℕ → List (List ℕ) → List ℕ → (settled unmet : Bool) → Type 0
+AreSearchTexts q p before [] text settled unmet = (text ≡ []) × (settled ≡ true) × (unmet ≡ false)
+AreSearchTexts q p before (places ∷ groups) text settled unmet =
+    (a : SearchText) × (b : SearchText) × IsSearchText q p before places a.text a.settled a.unmet × AreSearchTexts q p before groups b.text b.settled b.unmet
+    × (text ≡ a.text ++ b.text) × (settled ≡ (a.settled && b.settled)) × (unmet ≡ (a.unmet || b.unmet))
 
 -- each session is asked about by itself, as it depends on no other; where there is none, what moves is asked about alone
 abbrev pub groups_of : List ℕ → List (List ℕ)
@@ -91,7 +87,7 @@ IsExplorationFrom q p before Complete text =
 IsExplorationFrom q p before Incomplete text =
     let places = places_of (session_name q) p in (lacks_session q places ≡ false) × AreSearchTexts q p before (groups_of places) text false false
 IsExplorationFrom q p before Unmet text =
-    let places = places_of (session_name q) p in (lacks_session q places ≡ false) × ((whole : Bool) × AreSearchTexts q p before (groups_of places) text whole true)
+    let places = places_of (session_name q) p in (lacks_session q places ≡ false) × ((settled : Bool) × AreSearchTexts q p before (groups_of places) text settled true)
 IsExplorationFrom q p before NoSession text = (lacks_session q (places_of (session_name q) p) ≡ true) × (text ≡ [])
 IsExplorationFrom q p before (Refused r) text = ⊥
 
@@ -99,11 +95,11 @@ IsExplorationFrom q p before (Refused r) text = ⊥
 
 -- the text of a search comes after it
 abbrev pub AddsSearch : ExploreRequest → Program → (before places : List ℕ) → (old new : List ℕ) → SearchEnd → Type 0
-AddsSearch q p before places old new end = (text : List ℕ) × IsSearchText q p before places text end.is_complete end.is_refuted × (new ≡ old ++ text)
+AddsSearch q p before places old new end = (text : List ℕ) × IsSearchText q p before places text end.is_settled end.is_unmet × (new ≡ old ++ text)
 
 -- the texts of searches do
 abbrev pub AddsSearches : ExploreRequest → Program → List ℕ → List (List ℕ) → (old new : List ℕ) → SearchEnd → Type 0
-AddsSearches q p before groups old new end = (text : List ℕ) × AreSearchTexts q p before groups text end.is_complete end.is_refuted × (new ≡ old ++ text)
+AddsSearches q p before groups old new end = (text : List ℕ) × AreSearchTexts q p before groups text end.is_settled end.is_unmet × (new ≡ old ++ text)
 
 -- ---- by the moves that are asked for
 

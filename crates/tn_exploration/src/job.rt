@@ -38,10 +38,10 @@ fn exploration_from<A: Allocator + Copy>(
         return Ok((ExploreOutcome::NoSession, text));
     }
     let end = put_groups(alloc, program, request, before, &places, &mut text)?;
-    if end.is_refuted {
+    if end.is_unmet {
         return Ok((ExploreOutcome::Unmet, text));
     }
-    if end.is_complete {
+    if end.is_settled {
         Ok((ExploreOutcome::Complete, text))
     } else {
         Ok((ExploreOutcome::Incomplete, text))
@@ -120,8 +120,9 @@ impl<A: Allocator + Copy> DirectJob<A> for ExploreRequest<'_> {
     }
 }
 
-/// Explores all schedules of the script that the reader holds: writes the listings that they give or the words for the
-/// patterns, or the line of the refusal, or nothing where the moves are refused, as `tn_run::transact` says.
+/// Explores all schedules of the script that the reader holds: writes the listings that they give, the words for the
+/// patterns, or whether the trace is possible; or the line of the refusal, or nothing where the moves are refused, as
+/// `tn_run::transact` says.
 pub fn explore<A: Allocator + Copy, R: Read, W: Write>(
     alloc: A,
     reader: &mut Watched<R>,

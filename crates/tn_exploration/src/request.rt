@@ -1,6 +1,6 @@
 // What is asked of all schedules of a program, and what was written.
 use std::alloc::Global;
-use tn_message_pattern::PatternQuestion;
+use tn_answers::SearchQuestion;
 use tn_moves::Schedule;
 use tn_run::RunRefusal;
 use tn_search::ListingOrder;
@@ -14,8 +14,8 @@ pub struct ExploreRequest<'a> {
     pub order: ListingOrder,
     /// The session that it is about, where it isn't about all.
     pub session: Option<&'a str>,
-    /// The patterns that it is about, in place of the listings where there are any.
-    pub patterns: &'a [PatternQuestion<Global>],
+    /// The patterns or the trace that it is about.
+    pub question: SearchQuestion<'a, Global>,
     /// How many states may be met before it ends.
     pub max_states: usize,
 }
@@ -23,11 +23,11 @@ pub struct ExploreRequest<'a> {
 /// What was written.
 #[derive(Clone, Copy, Debug, PartialEq, Eq, Drop)]
 pub enum ExploreOutcome {
-    /// The listings of all schedules, or the words for the patterns.
+    /// The listings of all schedules, the words for the patterns, or a run that shows the trace.
     Complete,
-    /// Those that were found among so many states.
+    /// What was found among so many states.
     Incomplete,
-    /// The words for the patterns, one of which is refuted to be the demanded one.
+    /// The words for the patterns, one of which is refuted to be the demanded one; or that the trace is impossible.
     Unmet,
     /// Nothing: the control list creates no session of the name that is asked for.
     NoSession,

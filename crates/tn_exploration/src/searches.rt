@@ -10,11 +10,12 @@ use tn_answers::search_answer;
 use tn_program::Program;
 use tn_search::explore_program;
 
-/// How searches ended: whether all of them tried all states, and whether what one says refutes a demand.
+/// How searches ended: whether more states could change no answer, and whether one refutes a demand or has no run for
+/// the trace.
 #[derive(Clone, Copy)]
 pub(crate) struct SearchEnd {
-    pub(crate) is_complete: bool,
-    pub(crate) is_refuted: bool,
+    pub(crate) is_settled: bool,
+    pub(crate) is_unmet: bool,
 }
 
 /// Appends the text of a search about the sessions at some places.
@@ -32,11 +33,11 @@ fn put_search<A: Allocator + Copy>(
     let names = names_at(alloc, program, places)?;
     let most = request.max_states;
     let exploration = explore_program(alloc, program, before, request.order, places, most)?;
-    let answer = search_answer(alloc, &names, request.patterns, &exploration)?;
+    let answer = search_answer(alloc, &names, &request.question, &exploration)?;
     text.extend_from_slice(&answer.text)?;
     Ok(SearchEnd {
-        is_complete: exploration.is_complete,
-        is_refuted: answer.is_refuted,
+        is_settled: answer.is_settled,
+        is_unmet: answer.is_unmet,
     })
 }
 
@@ -59,12 +60,12 @@ fn put_one<A: Allocator + Copy>(
 
 /// How both ended.
 fn both(one: SearchEnd, other: SearchEnd) -> SearchEnd
-    ensures complete { result.is_complete ≡ (one.is_complete && other.is_complete) }
-    ensures refuted { result.is_refuted ≡ (one.is_refuted || other.is_refuted) }
+    ensures settled { result.is_settled ≡ (one.is_settled && other.is_settled) }
+    ensures unmet { result.is_unmet ≡ (one.is_unmet || other.is_unmet) }
 {
     SearchEnd {
-        is_complete: one.is_complete && other.is_complete,
-        is_refuted: one.is_refuted || other.is_refuted,
+        is_settled: one.is_settled && other.is_settled,
+        is_unmet: one.is_unmet || other.is_unmet,
     }
 }
 
@@ -81,8 +82,8 @@ fn put_each<A: Allocator + Copy>(
         (map (λ n. n ∷ []) places.now) text.old.items text.new.items) }
 {
     let mut all = SearchEnd {
-        is_complete: true,
-        is_refuted: false,
+        is_settled: true,
+        is_unmet: false,
     };
     for place in places {
         let one = put_one(alloc, program, request, before, *place, text)?;

@@ -139,6 +139,14 @@ SCHEDULES = codes "script" ∷ codes "after" ∷ codes "control" ∷ codes "orde
 abbrev pub EXPLORE_ARGUMENTS : List (List ℕ)
 EXPLORE_ARGUMENTS = SCHEDULES ++ codes "shows" ∷ codes "always" ∷ codes "never" ∷ codes "sometimes" ∷ codes "max-states" ∷ codes "max-output" ∷ []
 
+-- which trace, and with which schedules it is compared
+abbrev pub TRACES : List (List ℕ)
+TRACES = codes "script" ∷ codes "trace" ∷ codes "prefix" ∷ codes "after" ∷ codes "control" ∷ []
+
+-- the arguments of `compare`
+abbrev pub COMPARE_ARGUMENTS : List (List ℕ)
+COMPARE_ARGUMENTS = TRACES ++ codes "order" ∷ codes "session" ∷ codes "max-states" ∷ codes "max-output" ∷ []
+
 -- the commands of the program
 abbrev pub COMMAND_NAMES : List (List ℕ)
-COMMAND_NAMES = codes "run" ∷ codes "replay" ∷ codes "round" ∷ codes "workers" ∷ codes "explain" ∷ codes "draw" ∷ codes "spec" ∷ codes "fun" ∷ codes "explore" ∷ []
+COMMAND_NAMES = codes "run" ∷ codes "replay" ∷ codes "round" ∷ codes "workers" ∷ codes "explain" ∷ codes "draw" ∷ codes "spec" ∷ codes "fun" ∷ codes "explore" ∷ codes "compare" ∷ []

@@ -11,6 +11,7 @@ use crate::arguments::{
     own_process, picks, picks_file, picks_or_round, quiet, reject_line, script, session, spec_file,
     specification, spread, strict, summary, text, turns, without_picks, worker_count,
 };
+use crate::compare_command::compare;
 use crate::explore_command::explore;
 use crate::fun_command::fun;
 use clap::{ArgGroup, Command};
@@ -31,11 +32,11 @@ Examples:
 Exit status:
   0  the output was written
   1  the output was written, and isn't what --expect, --expect-session, --expect-line or --reject-line
-     says, or an exploration refutes --always, --never or --sometimes, or a command is refused, matches
-     no function or has a match specification that does nothing, under --strict
+     says, or an exploration refutes --always, --never or --sometimes, or no run shows the trace, or a
+     command is refused, matches no function or has a match specification that does nothing, under --strict
   2  the script, the picks or the command line is refused
   3  a fault: a failed read or write, a lack of memory, or an output past --max-output
-  4  an exploration that ended before it had tried all states";
+  4  an exploration or a comparison that ended before it had tried all states";
 
 /// A command that runs the script by picks or moves, with `--picks TEXT`, `--picks-file FILE`, `--moves TEXT` or
 /// `--moves-file FILE`, where these are among the sources of picks.
@@ -239,5 +240,6 @@ pub fn command<'a>(alloc: Global) -> Result<Command<'a>, AllocError>
     let command = with_subcommand(command, draw(alloc))?;
     let command = with_subcommand(command, spec(alloc))?;
     let command = with_subcommand(command, fun(alloc))?;
-    with_subcommand(command, explore(alloc))
+    let command = with_subcommand(command, explore(alloc))?;
+    with_subcommand(command, compare(alloc))
 }

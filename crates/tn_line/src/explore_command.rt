@@ -7,7 +7,7 @@ use clap::{Arg, ArgAction, Command, value_parser};
 use std::alloc::{AllocError, Global};
 
 /// `--after MOVES`. MOVES may begin with a hyphen: the run refuses it, not the command line.
-fn after<'a>(alloc: Global) -> Arg<'a>
+pub(crate) fn after<'a>(alloc: Global) -> Arg<'a>
     ensures { IsOption (codes "after") result }
 {
     Arg::new(alloc, "after")
@@ -19,7 +19,7 @@ fn after<'a>(alloc: Global) -> Arg<'a>
 }
 
 /// `--control first`, which is not taken beside `--after`.
-fn first_control<'a>(alloc: Global) -> Result<Arg<'a>, AllocError>
+pub(crate) fn first_control<'a>(alloc: Global) -> Result<Arg<'a>, AllocError>
     ensures { IfOk result (IsOption (codes "control")) }
 {
     Arg::new(alloc, "control")
@@ -35,7 +35,7 @@ fn first_control<'a>(alloc: Global) -> Result<Arg<'a>, AllocError>
 const LISTING_ORDERS: &[&str] = &["process", "total"];
 
 /// `--order ORDER`.
-fn listing_order<'a>(alloc: Global) -> Arg<'a>
+pub(crate) fn listing_order<'a>(alloc: Global) -> Arg<'a>
     ensures named { IsOption (codes "order") result }
     ensures value { IsElse (codes "process") result }
 {
@@ -51,7 +51,7 @@ fn listing_order<'a>(alloc: Global) -> Arg<'a>
 }
 
 /// `--session NAME`. NAME may begin with a hyphen, and may be in quotes as atoms are in scripts.
-fn one_session<'a>(alloc: Global) -> Arg<'a>
+pub(crate) fn one_session<'a>(alloc: Global) -> Arg<'a>
     ensures { IsOption (codes "session") result }
 {
     Arg::new(alloc, "session")
@@ -119,7 +119,7 @@ fn sometimes<'a>(alloc: Global) -> Arg<'a>
 }
 
 /// `--max-states N`.
-fn max_states<'a>(alloc: Global) -> Arg<'a>
+pub(crate) fn max_states<'a>(alloc: Global) -> Arg<'a>
     ensures named { IsOption (codes "max-states") result }
     ensures value { IsElse (codes "100000") result }
     ensures range { IsFromTo 1 4294967295 result }

@@ -7,6 +7,7 @@
 
 mod arguments;
 mod commands;
+mod compare_command;
 mod explore_command;
 mod fun_command;
 

@@ -5,15 +5,15 @@ use Rattle.std.proofs.Math.ListN.{set}
 use Rattle.std.proofs.lemmas.Bool.Decides.{nat_tests}
 use Rattle.def_term.specs.Tree.{Tree, int, atom, pid, tuple, list, none, more}
 use Rattle.def_run.specs.Round.{pass_from}
-use Rattle.def_explore.specs.Rests.{is_of_process, each_process, all_pids}
-use Rattle.tn_messages.specs.MessageViews.{message_process, pid_place, message_place}
+use Rattle.def_explore.specs.Rests.{message_process, is_of_process, each_process, all_pids}
+use Rattle.tn_messages.specs.MessageViews.{pid_place, message_place}
 
 -- whether a message is of a process, by the process that it is of
 abbrev is_process : Option ℕ → ℕ → Bool
 is_process None n = false
 is_process (Some m) n = m == n
 
-of_process : (n : ℕ) (t : Tree) → is_of_process n t ≡ is_process (message_process t) n
+pub of_process : (n : ℕ) (t : Tree) → is_of_process n t ≡ is_process (message_process t) n
 of_process n (int m) = refl
 of_process n (atom s) = refl
 of_process n (pid m) = refl

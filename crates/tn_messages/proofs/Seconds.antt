@@ -3,7 +3,7 @@ use Rattle.std.proofs.Common.{◌≡◌, ◌∙◌, ◌<◌, ◌≤◌, List, []
 use Rattle.def_term.specs.Tree.{Tree, int, atom, pid, tuple, list, Trees, more, pid_in}
 use Rattle.tn_term.specs.Views.{tree_of, trees_of}
 use Rattle.tn_term.specs.declared.term.Term.{Term}
-use Rattle.tn_messages.specs.MessageViews.{message_process}
+use Rattle.def_explore.specs.Rests.{message_process}
 
 -- a tuple of fewer has none
 pub few_have_none : {A : Type 0} (items : List (Term A)) → length items < 2 → None ≡ message_process (tuple (trees_of items))

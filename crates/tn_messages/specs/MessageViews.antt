@@ -3,10 +3,10 @@
 use Rattle.std.specs.Prelude.{◌≡◌, ℕ, ◌-◌, nat_lt, if◌then◌else◌, Bool, true, false, List, [], ◌∷◌, map, Option, Some, None}
 use Rattle.std.specs.declared.vec.Vec.{Vec}
 use Rattle.def_term.specs.Alive.{FIRST_PID, PROCESSES}
-use Rattle.def_term.specs.Tree.{Tree, tuple, pid, more}
+use Rattle.def_term.specs.Tree.{Tree}
 use Rattle.def_term.specs.Order.{same}
 use Rattle.def_term.specs.Text.{w}
-use Rattle.def_explore.specs.Rests.{RunQuestion, all_messages, by_process, KeptMessages, kept_messages, kept_by_process, each_process, all_pids}
+use Rattle.def_explore.specs.Rests.{RunQuestion, all_messages, by_process, KeptMessages, kept_messages, kept_by_process, message_process, each_process, all_pids}
 use Rattle.tn_text.specs.WrittenTrees.{written_tree}
 use Rattle.tn_messages.specs.declared.shared_message.SharedMessage.{SharedMessage}
 use Rattle.tn_messages.specs.declared.kept_listings.KeptListings.{KeptListings}
@@ -17,11 +17,6 @@ use Rattle.tn_messages.specs.declared.kept_listings.KeptListings.TheVariants.{To
 
 abbrev pub message_tree : {A : Type 0} → SharedMessage A → Tree
 message_tree m = written_tree m.message
-
--- the number of the pid that is the second element: {trace,Pid,..}
-abbrev pub message_process : Tree → Option ℕ
-message_process (tuple (more t (more (pid n) ts))) = Some n
-message_process _ = None
 
 -- the place of a pid among those that a run gives
 abbrev pub pid_place : Option ℕ → Option ℕ

@@ -12,4 +12,4 @@ mod shared_message;
 pub use kept_listings::KeptListings;
 pub use list::{MessageList, same_messages, share_messages};
 pub use messages_by_process::MessagesByProcess;
-pub use shared_message::SharedMessage;
+pub use shared_message::{SharedMessage, is_of_process, message_process};

@@ -2,7 +2,7 @@
 ghost use Rattle.std.specs.Prelude.{◌≡◌};
 ghost use Rattle.def_term.specs.Tree as Tree;
 ghost use Rattle.tn_term.specs.Views.{tree_of, trees_of};
-ghost use Rattle.tn_messages.specs.MessageViews.{message_process};
+ghost use Rattle.def_explore.specs.Rests.{is_of_process, message_process};
 
 use std::alloc::{AllocError, Allocator};
 use std::hash::{Hash, Hasher};
@@ -35,8 +35,8 @@ fn second_pid<A: Allocator>(items: &[Term<A>]) -> Option<u32>
     pid_in(&items[1])
 }
 
-/// The number of the pid that is the second element of a tuple.
-fn pid_of_message<A: Allocator>(term: &Term<A>) -> Option<u32>
+/// The number of the pid that is the second element of a tuple: the process that a trace message is of.
+pub fn message_process<A: Allocator>(term: &Term<A>) -> Option<u32>
     ensures { result ≡ message_process (tree_of term.now) }
 {
     match term {
@@ -45,12 +45,23 @@ fn pid_of_message<A: Allocator>(term: &Term<A>) -> Option<u32>
     }
 }
 
+/// Whether a trace message is of the process with this pid.
+pub fn is_of_process<A: Allocator>(pid: u32, term: &Term<A>) -> bool
+    ensures { result ≡ is_of_process pid (tree_of term.now) }
+{
+    match message_process(term) {
+        Some(other) => other == pid,
+        None => false,
+    }
+}
+
 impl<A: Allocator> SharedMessage<A> {
     ghost use Rattle.std.specs.Prelude.{◌≡◌, IfOk};
     ghost use Rattle.def_term.specs.Text.{w};
     ghost use Rattle.tn_term.specs.Views.{tree_of};
     ghost use Rattle.tn_text.specs.WrittenTrees.{written_tree};
-    ghost use Rattle.tn_messages.specs.MessageViews.{message_process, message_tree};
+    ghost use Rattle.def_explore.specs.Rests.{message_process};
+    ghost use Rattle.tn_messages.specs.MessageViews.{message_tree};
 
     /// The message, which has one owner more.
     pub fn new(message: WrittenTerm<A>) -> SharedMessage<A>
@@ -86,7 +97,7 @@ impl<A: Allocator> SharedMessage<A> {
     pub fn pid(&self) -> Option<u32>
         ensures { result ≡ message_process (message_tree self.now) }
     {
-        pid_of_message(self.term())
+        message_process(self.term())
     }
 }
 

@@ -15,7 +15,7 @@ use Rattle.tn_request.specs.declared.request.ExpectationArgs.{ExpectationArgs}
 use Rattle.tn_request.specs.declared.request.Request.{Request}
 use Rattle.tn_request.specs.declared.request.Request.TheVariants.{Run, Workers, Spec, Fun, Explore}
 use Rattle.tn_request.specs.InputsAsked.{input_pair_seen, both_inputs, input_list, first_two, first_two_of_four, of_source, text_input, expected_inputs, shared_input}
-use Rattle.tn_request.specs.RequestParts.{script_asked, text_source_asked, spec_text_source, IsRequestExpectation, IsAnyOutput}
+use Rattle.tn_request.specs.RequestParts.{script_asked, text_source_asked, spec_text_source, trace_source, IsRequestExpectation, IsAnyOutput}
 
 -- ---- of four texts
 
@@ -76,6 +76,11 @@ of_specification (Some path) specification = refl
 of_specification None None = refl
 of_specification None (Some words) = by_test (bytes_eq words.now (codes "-"))
 
+-- a trace is read from a file
+of_trace : (path : Option (Bor (List ℕ))) → text_input (trace_source path) ≡ None
+of_trace None = refl
+of_trace (Some path) = refl
+
 -- nothing is read where nothing is expected
 none_expected : (e : ExpectationArgs) → IsAnyOutput e → first_two (expected_inputs e) ≡ None
 none_expected e is =
@@ -101,7 +106,8 @@ texts_by_parts (Spec trial) e is =
 texts_by_parts (Fun fun) e is = ap (λ x. first_two (input_list x ++ expected_inputs e)) (of_specification None fun.text) ∙ none_expected e is
 texts_by_parts (Explore exploration) e is =
     let script = input_list (of_source (Some exploration.script) the_script) in
-    ap (λ x. first_two (x ++ expected_inputs e)) (no_more script) ∙ ap (λ x. first_two (script ++ x)) (empty_expected e is) ∙ ap first_two (no_more script)
+    ap (λ x. first_two (script ++ input_list x ++ expected_inputs e)) (of_trace exploration.trace)
+    ∙ ap (λ x. first_two (x ++ expected_inputs e)) (no_more script) ∙ ap (λ x. first_two (script ++ x)) (empty_expected e is) ∙ ap first_two (no_more script)
 
 -- the same, by what is seen of the parts
 pub texts_seen : (r : Request) (e : ExpectationArgs) (script : Option Source) (text : Option TextSource) (listing : Option Source) (a b c d : Option code.InputText)

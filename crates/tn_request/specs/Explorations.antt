@@ -3,12 +3,12 @@
 use Rattle.std.specs.Prelude.{◌≡◌, ◌⊎◌, ◌++◌, ℕ, List, codes}
 use Rattle.std.specs.declared.alloc.Global.{Global}
 use Rattle.def_explore.specs.Words as words
+use Rattle.tn_answers.specs.declared.text.SearchQuestion.{SearchQuestion}
 use Rattle.tn_command.specs.Explorations.{IsExplorationStatus}
 use Rattle.tn_command.specs.Status.{IsStatus}
 use Rattle.tn_expectation.specs.Expectations.{words_of}
 use Rattle.tn_exploration.specs.Questions.{IsQuestionOf, IsTextsFault}
 use Rattle.tn_exploration.specs.declared.request.ExploreRequest.{ExploreRequest}
-use Rattle.tn_message_pattern.specs.declared.message_pattern.PatternQuestion.{PatternQuestion}
 use Rattle.tn_moves.specs.Schedules.{by_moves, schedule_seen}
 use Rattle.tn_trace.specs.Slots.{EachPair}
 use Rattle.tn_request.specs.declared.exploration.PatternsFault.{PatternsFault}
@@ -16,12 +16,12 @@ use Rattle.tn_request.specs.declared.request.ExploreArgs.{ExploreArgs}
 use Rattle.tn_request.specs.declared.request.Request.{Request}
 use Rattle.tn_request.specs.declared.request.Request.TheVariants.{Run, Workers, Spec, Fun, Explore}
 
--- the schedules begin with the moves of the text, it is about these patterns, and the rest is as the words say
-pub record IsExplorationAsked (args : ExploreArgs) (asked : List (PatternQuestion Global)) (q : ExploreRequest) : Type 0 where
+-- the schedules begin with the moves of the text, this is asked, and the rest is as the words say
+pub record IsExplorationAsked (args : ExploreArgs) (asked : SearchQuestion Global) (q : ExploreRequest) : Type 0 where
   pub schedule : schedule_seen q.schedule ≡ by_moves args.before.now
   pub order : q.order ≡ args.order
   pub session : q.session ≡ args.session
-  pub patterns : q.patterns.now ≡ asked
+  pub question : q.question ≡ asked
   pub max_states : q.max_states ≡ args.max_states
 
 -- the patterns that the texts of each option spell, with what the option demands

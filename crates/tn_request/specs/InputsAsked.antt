@@ -10,7 +10,7 @@ use Rattle.tn_request.specs.declared.request.ExpectationArgs.{ExpectationArgs}
 use Rattle.tn_request.specs.declared.request.Request.{Request}
 use Rattle.tn_request.specs.declared.request.Request.TheVariants.{Run, Workers, Spec, Fun, Explore}
 use Rattle.tn_request.specs.declared.request.TextSource.{TextSource}
-use Rattle.tn_request.specs.declared.request.TextSource.TheVariants.{Picks, Moves, Specification}
+use Rattle.tn_request.specs.declared.request.TextSource.TheVariants.{Picks, Moves, Specification, Trace}
 use Rattle.tn_request.specs.RequestParts.{run_expectation, script_asked, text_source_asked}
 
 -- the text, where its source is standard input
@@ -25,6 +25,7 @@ text_input None = None
 text_input (Some (Picks source)) = of_source (Some source) the_picks
 text_input (Some (Moves source)) = of_source (Some source) the_moves
 text_input (Some (Specification source)) = None
+text_input (Some (Trace source)) = None
 
 -- the list of what is there
 abbrev pub input_list : Option InputText → List InputText

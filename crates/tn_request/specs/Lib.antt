@@ -5,5 +5,6 @@ pub mod TaskFlaws
 pub mod WorkersAsked
 pub mod TrialsAsked
 pub mod Explorations
+pub mod Comparisons
 pub mod ExpectationsAsked
 pub mod InputsAsked

@@ -14,7 +14,7 @@ use Rattle.tn_request.specs.declared.request.RunRequest.TheVariants.{Replay, Exp
 use Rattle.tn_request.specs.declared.request.Request.{Request}
 use Rattle.tn_request.specs.declared.request.Request.TheVariants.{Run, Workers, Spec, Fun, Explore}
 use Rattle.tn_request.specs.declared.request.TextSource.{TextSource}
-use Rattle.tn_request.specs.declared.request.TextSource.TheVariants.{Picks, Moves, Specification}
+use Rattle.tn_request.specs.declared.request.TextSource.TheVariants.{Picks, Moves, Specification, Trace}
 
 -- what the output of a run must be
 abbrev pub run_expectation : RunRequest → ExpectationArgs
@@ -79,10 +79,15 @@ spec_text_source (Some path) specification = Some (Specification (File path))
 spec_text_source None None = Some (Specification Input)
 spec_text_source None (Some words) = if bytes_eq words.now (codes "-") then Some (Specification Input) else None
 
+-- the trace is to be read from the file that has it
+abbrev pub trace_source : Option (Bor (List ℕ)) → Option TextSource
+trace_source None = None
+trace_source (Some path) = Some (Trace (File path))
+
 -- the text that is to be read beside the script
 abbrev pub text_source_asked : Request → Option TextSource
 text_source_asked (Run run) = run_text_source run
 text_source_asked (Workers workers) = None
 text_source_asked (Spec trial) = spec_text_source trial.file trial.specification
 text_source_asked (Fun fun) = spec_text_source None fun.text
-text_source_asked (Explore exploration) = None
+text_source_asked (Explore exploration) = trace_source exploration.trace

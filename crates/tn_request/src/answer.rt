@@ -156,6 +156,6 @@ pub fn answer_request<R: Input + Files + Print + Eprint + AllocGlobal + Threads 
             print_fun_of_spec(rt, without_full_stop(fun_text_of(fun, read)), fun.dialect)
         }
         Request::Fun(fun) => print_fun(rt, fun_text_of(fun, read), fun.dialect),
-        Request::Explore(words) => explore_words(rt, words, form.most),
+        Request::Explore(words) => explore_words(rt, words, read, form.most),
     }
 }

@@ -7,10 +7,12 @@ ghost use Rattle.tn_exploration.specs.Questions.{AddsQuestions};
 ghost use Rattle.tn_message_pattern.specs.Questions.{demand_seen, pattern_question_seen};
 ghost use Rattle.tn_request.specs.Explorations.{ArePatternsAsked, IsExplorationAsked, IsOptionFault, IsPatternsFault};
 
+use crate::comparison::compare_words;
 use crate::request::ExploreArgs;
 use std::alloc::Global;
 use std::process::ExitCode;
 use std::rt::Files;
+use tn_answers::SearchQuestion;
 use tn_command::{BadValue, explore_script, refuse_value, report};
 use tn_exploration::{ExploreRequest, QuestionsFault, add_questions};
 use tn_message_pattern::{Demand, PatternQuestion};
@@ -20,15 +22,15 @@ use tn_notice::CommandFault;
 /// What is asked of all schedules, which begin with the moves of the text.
 pub fn exploration_of<'a, 'w: 'a>(
     words: &ExploreArgs<'w>,
-    patterns: &'a [PatternQuestion<Global>],
+    question: SearchQuestion<'a, Global>,
 ) -> ExploreRequest<'a>
-    ensures { IsExplorationAsked words.now patterns.now result }
+    ensures { IsExplorationAsked words.now question.entry result }
 {
     ExploreRequest {
         schedule: Schedule::Moves(words.before.as_bytes()),
         order: words.order,
         session: words.session,
-        patterns,
+        question,
         max_states: words.max_states as usize,
     }
 }
@@ -115,8 +117,8 @@ fn refuse_pattern<R: Eprint + AllocGlobal>(rt: &R, refused: PatternsFault<'_>) -
     }
 }
 
-/// Explores all schedules as the words say, and writes to standard output.
-pub(crate) fn explore_words<R: Input + Files + Print + Eprint + AllocGlobal>(
+/// Explores all schedules for the patterns that the words have, or for the listings.
+fn explore_patterns<R: Input + Files + Print + Eprint + AllocGlobal>(
     rt: &R,
     words: &ExploreArgs<'_>,
     most: usize,
@@ -124,7 +126,26 @@ pub(crate) fn explore_words<R: Input + Files + Print + Eprint + AllocGlobal>(
     ensures { IsExplorationStatus (exit_status result) }
 {
     match patterns_of(rt.alloc(), words) {
-        Ok(patterns) => explore_script(rt, words.script, &exploration_of(words, &patterns), most),
+        Ok(patterns) => {
+            let question = SearchQuestion::Patterns(&patterns);
+            explore_script(rt, words.script, &exploration_of(words, question), most)
+        }
         Err(refused) => refuse_pattern(rt, refused),
+    }
+}
+
+/// Explores all schedules as the words say, with the trace that was read where they have one, and writes to standard
+/// output.
+pub(crate) fn explore_words<R: Input + Files + Print + Eprint + AllocGlobal>(
+    rt: &R,
+    words: &ExploreArgs<'_>,
+    read: &[u8],
+    most: usize,
+) -> ExitCode
+    ensures { IsExplorationStatus (exit_status result) }
+{
+    match words.trace {
+        Some(path) => compare_words(rt, words, path, read, most),
+        None => explore_patterns(rt, words, most),
     }
 }

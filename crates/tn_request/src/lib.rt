@@ -1,11 +1,12 @@
 //! What the command line asks for, once its words are read, and the job that this is.
 //!
-//! Depends on tn_command, and on the crates of its jobs. Promises that the schedule, the job, the workers, the trial
-//! and the exploration of a request are the defined ones, and that a writer gains what the defined job writes of a
-//! reader's script.
+//! Depends on tn_command, and on the crates of its jobs. Promises that the schedule, the job, the workers, the trial,
+//! the exploration and the trace of a request are the defined ones, and that a writer gains what the defined job writes
+//! of a reader's script.
 #![tactic(auto)]
 
 mod answer;
+mod comparison;
 mod exploration;
 mod fun_text;
 mod inputs;
@@ -17,6 +18,7 @@ mod trial;
 mod workers;
 
 pub use answer::{answer_request, perform_request_over, print_request_over};
+pub use comparison::{put_trace_fault, trace_of};
 pub use exploration::{PatternsFault, exploration_of, patterns_of};
 pub use fun_text::fun_text_of;
 pub use job::{RequestJob, RequestOutcome, format_of, job_of};

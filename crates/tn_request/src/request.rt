@@ -68,7 +68,7 @@ pub struct FunArgs<'a> {
     pub text: Option<&'a str>,
 }
 
-/// What is asked of all schedules of a script, in the words of `explore`.
+/// What is asked of all schedules of a script, in the words of `explore` and of `compare`.
 #[derive(Clone, Copy)]
 pub struct ExploreArgs<'a> {
     pub script: Source<'a>,
@@ -86,6 +86,10 @@ pub struct ExploreArgs<'a> {
     pub never: &'a [&'a str],
     /// Those that must have the word `sometimes`.
     pub sometimes: &'a [&'a str],
+    /// The path of the file with the trace that it is about, where it is about one.
+    pub trace: Option<&'a str>,
+    /// Whether a run may have more messages than the trace.
+    pub goes_on: bool,
     /// How many states may be met before it ends.
     pub max_states: u32,
 }
@@ -186,6 +190,8 @@ pub enum TextSource<'a> {
     Moves(Source<'a>),
     /// A match specification, or a fun.
     Specification(Source<'a>),
+    /// The trace messages that a node printed.
+    Trace(Source<'a>),
 }
 
 impl<'a> PicksSource<'a> {
@@ -215,6 +221,18 @@ impl<'a> RunSource<'a> {
             RunSource::ByPicks(picks) => picks.text_source(),
             RunSource::ByRound { .. } => None,
         }
+    }
+}
+
+impl<'a> ExploreArgs<'a> {
+    ghost use Rattle.tn_request.specs.RequestParts.{trace_source};
+
+    /// The trace that is to be read, where there is one.
+    fn text_source(&self) -> Option<TextSource<'a>>
+        ensures { result ≡ trace_source self.now.trace }
+    {
+        let path = self.trace?;
+        Some(TextSource::Trace(Source::File(path)))
     }
 }
 
@@ -321,9 +339,10 @@ impl<'a> Request<'a> {
     {
         match *self {
             Request::Run(run) => run.text_source(),
-            Request::Workers(_) | Request::Explore(_) => None,
+            Request::Workers(_) => None,
             Request::Spec(trial) => trial.text_source(),
             Request::Fun(fun) => fun.text_source(),
+            Request::Explore(exploration) => exploration.text_source(),
         }
     }
 }

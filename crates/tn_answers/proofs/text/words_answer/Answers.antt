@@ -1,4 +1,4 @@
-use Rattle.std.proofs.Common.{◌∙◌, ◌++◌, codes, flat_map, length}
+use Rattle.std.proofs.Common.{◌∙◌, ◌++◌, codes, flat_map, length, refl}
 use Rattle.def_run.specs.Listing.{header_line}
 use Rattle.def_term.specs.Names.{Name}
 use Rattle.def_explore.specs.Output.{closing_line, pattern_answer_text}
@@ -19,7 +19,8 @@ returns g c =
     record {
       text = whole_text c.new-text.result.items c.put_headers.new.out.items c.put_patterns.new.out.items c.put_explored.new.out.items
           (flat_map session_header ss) (flat_map (λ q. pattern_answer_text es e.is_complete (pattern_question_seen q)) qs) (codes "== explored\n") (closing_line e.states (length es) e.is_complete)
-          c.new-text.ensures.items c.in_ok-put_headers.ensures c.in_ok-is_refuted.ensures.lines c.in_ok-put_explored.ensures
+          c.new-text.ensures.items c.in_ok-put_headers.ensures c.in_ok-is_unmet.ensures.lines c.in_ok-put_explored.ensures
           ∙ (λ i. seen_parts (λ (s : Name × Name). header_line s.0 s.1) session_name_seen ss i ++ seen_parts (pattern_answer_text es e.is_complete) pattern_question_seen qs i ++ codes "== explored\n" ++ closing_line e.states (length es) e.is_complete);
-      refuted = c.in_ok-is_refuted.ensures.refuted ∙ seen_any (refutes es e.is_complete) pattern_question_seen qs;
+      unmet = c.in_ok-is_unmet.ensures.refuted ∙ seen_any (refutes es e.is_complete) pattern_question_seen qs;
+      settled = refl;
     }

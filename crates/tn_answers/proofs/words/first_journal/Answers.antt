@@ -6,7 +6,8 @@ use Rattle.tn_messages.specs.MessageViews.{kept_seen}
 use Rattle.std.specs.declared.vec.Vec.{Vec}
 use Rattle.tn_messages.specs.declared.kept_listings.KeptListings.{KeptListings}
 use Rattle.tn_spec.specs.Views.{pattern_seen}
-use Rattle.tn_answers.proofs.FirstJournals.{first_here, first_later, seen_at}
+use Rattle.tn_comparison.proofs.Entries.{seen_at}
+use Rattle.tn_answers.proofs.FirstJournals.{first_here, first_later}
 use Rattle.tn_answers.proofs.words.first_journal.Goals as goal
 
 pub returns-then-branch-shown : goal.returns-then-branch-shown

@@ -14,7 +14,7 @@ loop-place-preserved g c =
     let places = c.args.places.now in
     let old = c.args.text.now.items in
     let new = c.put_one.new.text.items in
-    place_search_more q p before places l.place-index old l.text.items new l.all c.in_ok-one.one c.both-all.result c.both-all.ensures.complete c.both-all.ensures.refuted c.loop-place-test.true l.invariant c.in_ok-one.ensures
+    place_search_more q p before places l.place-index old l.text.items new l.all c.in_ok-one.one c.both-all.result c.both-all.ensures.settled c.both-all.ensures.unmet c.loop-place-test.true l.invariant c.in_ok-one.ensures
 
 pub returns : goal.returns
 returns g c =

@@ -1,7 +1,7 @@
 use Rattle.std.proofs.Common.{◌≡◌, codes, []}
 use Rattle.std.proofs.lemmas.Result.{IfOk-weaker}
 use Rattle.clap.specs.Built.{subcommand_names}
-use Rattle.tn_line.specs.Line.{RUN, REPLAY, EXPLAIN, DRAW, ROUND, WORKERS, TRIAL, FUN_ARGUMENTS, EXPLORE_ARGUMENTS}
+use Rattle.tn_line.specs.Line.{RUN, REPLAY, EXPLAIN, DRAW, ROUND, WORKERS, TRIAL, FUN_ARGUMENTS, EXPLORE_ARGUMENTS, COMPARE_ARGUMENTS}
 use Rattle.tn_line.proofs.Names.{command_made}
 use Rattle.tn_line.proofs.commands.command.Goals as goal
 
@@ -24,6 +24,8 @@ returns c =
     c.spec.ensures c.in_ok-command-8.ensures in
     let seventh = command_made _ (codes "fun") FUN_ARGUMENTS c.in_ok-command-8.command c.in_ok-command-9.command c.fun.result sixth
     c.fun.ensures c.in_ok-command-9.ensures in
-    IfOk-weaker c.with_subcommand-9.result _ _
-    (λ new added. command_made _ (codes "explore") EXPLORE_ARGUMENTS c.in_ok-command-9.command new c.explore.result seventh c.explore.ensures added)
-    c.with_subcommand-9.ensures
+    let eighth = command_made _ (codes "explore") EXPLORE_ARGUMENTS c.in_ok-command-9.command c.in_ok-command-10.command c.explore.result seventh
+    c.explore.ensures c.in_ok-command-10.ensures in
+    IfOk-weaker c.with_subcommand-10.result _ _
+    (λ new added. command_made _ (codes "compare") COMPARE_ARGUMENTS c.in_ok-command-10.command new c.compare.result eighth c.compare.ensures added)
+    c.with_subcommand-10.ensures

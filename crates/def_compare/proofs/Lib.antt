@@ -1,0 +1,4 @@
+mod Pairs
+mod Matches
+mod Prefixes
+mod Rows

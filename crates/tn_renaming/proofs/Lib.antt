@@ -1,0 +1,3 @@
+mod Matches
+mod TermMatches
+mod Searches

@@ -1,0 +1,5 @@
+pub mod FirstLines
+pub mod Contents
+pub mod MessageFields
+pub mod StackTraces
+pub mod LinesRead

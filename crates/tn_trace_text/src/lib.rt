@@ -1,0 +1,15 @@
+//! Texts of trace messages, one message on a line, read.
+//!
+//! Depends on `def_trace_text` (which messages a text spells), `tn_text` (terms) and `tn_term`. Promises that
+//! `read_trace` answers the trace messages that a text spells, one on a line and without stack traces, or its refusal:
+//! the first line that spells none, by its number, and why.
+#![tactic(auto)]
+
+mod fault;
+mod line;
+mod message;
+mod reader;
+mod stack_trace;
+
+pub use fault::TraceFault;
+pub use reader::read_trace;

@@ -1,0 +1,229 @@
+"""Cases of comparisons: traces as a node could print them, with pids of its own and in another order, and traces that no
+run shows. What is expected is found by an independent comparison with the listings that an exploration writes.
+"""
+import random
+import re
+import shlex
+import tempfile
+from pathlib import Path
+
+from exploration_cases import headers, script_of, searches
+from harness import SEND_HI, check, run
+
+PID = re.compile(r"<0\.(\d+)\.0>")
+
+
+def process_of(line):
+    """The pid of the process that a trace message is of."""
+    return PID.search(line)[1]
+
+
+def paired(pairs, there, here):
+    """The pairs of pids, one to one, with those that make the one message the other; None where there are none."""
+    pids = list(zip(PID.findall(there), PID.findall(here)))
+    if PID.sub("<>", there) != PID.sub("<>", here):
+        return None
+    for one, other in pids:
+        if any((one == a) != (other == b) for a, b in pairs):
+            return None
+        pairs = pairs if (one, other) in pairs else [*pairs, (one, other)]
+    return pairs
+
+
+def all_paired(pairs, theirs, ours):
+    """The same for messages and the first ones of a list."""
+    if len(theirs) > len(ours):
+        return None
+    for there, here in zip(theirs, ours):
+        pairs = paired(pairs, there, here)
+        if pairs is None:
+            return None
+    return pairs
+
+
+def groups_of(lines, total):
+    """Lists of messages that are in an order: all, or those of each process, by its first message."""
+    if total:
+        return [lines]
+    pids = list(dict.fromkeys(process_of(line) for line in lines))
+    return [[line for line in lines if process_of(line) == pid] for pid in pids]
+
+
+def begun(groups, lists, pairs=()):
+    """The first pairs by which each group is the first messages of a list; None where there are none."""
+    if not groups:
+        return list(pairs)
+    for ours in lists:
+        more = all_paired(list(pairs), groups[0], ours)
+        found = None if more is None else begun(groups[1:], lists, more)
+        if found is not None:
+            return found
+    return None
+
+
+def first_match(trace, entries, total, goes_on):
+    """The first entry that shows the trace: its journal and the pairs."""
+    for journal, text in entries:
+        lines = text.splitlines()[1:]
+        lists = [lines] if total else sorted(groups_of(lines, False), key=lambda group: int(process_of(group[0])))
+        found = begun(groups_of(trace, total), lists) if goes_on or len(lines) == len(trace) else None
+        if found is not None:
+            return journal, found, lines
+    return None
+
+
+def run_line(words, journal):
+    """A line that ends with a journal."""
+    return f"{words} {journal}".strip() + "\n"
+
+
+def pair_lines(pairs):
+    """Which pids are which."""
+    return "".join(f"<0.{there}.0> is <0.{here}.0>\n" for there, here in pairs)
+
+
+def difference(trace, count, pairs, lines, total):
+    """Where the run that begins with so many messages differs from the trace."""
+    if count == len(trace):
+        return f"not in the trace: {len(lines) - count} more\n"
+    pid = process_of(trace[count])
+    partner = dict(pairs).get(pid)
+    before = [line for line in trace[:count] if total or process_of(line) == pid]
+    ours = [line for line in lines if total or process_of(line) == partner]
+    there = ours[len(before)] if len(before) < len(ours) else "no message"
+    return f"not there: {trace[count]}\nthere: {there}\n"
+
+
+def answer(trace, entries, whole, total, goes_on):
+    """The lines of a comparison, and its status."""
+    found = first_match(trace, entries, total, goes_on)
+    if found:
+        return run_line("possible: journal", found[0]) + pair_lines(found[1]), 0
+    word, status = ("impossible", 1) if whole else ("unknown", 4)
+    if not entries:
+        return f"{word}: no run to rest was met\n", status
+    count = next(n for n in range(len(trace), -1, -1) if first_match(trace[:n], entries, total, True))
+    journal, pairs, lines = first_match(trace[:count], entries, total, True)
+    size = f"{len(trace)} message" + ("" if len(trace) == 1 else "s")
+    begin = run_line(f"{word}: the longest prefix is {count} of {size}: journal", journal)
+    return begin + pair_lines(pairs) + difference(trace, count, pairs, lines, total), status
+
+
+def compare(script, trace, words):
+    """A comparison with a trace in a file."""
+    with tempfile.TemporaryDirectory() as room:
+        path = Path(room) / "trace.txt"
+        path.write_text(trace)
+        return run(["compare", "--trace", str(path), *words], script)
+
+
+def printed(lines, total, chance):
+    """Messages as a node could print them: with other pids, and mixed otherwise where that is no order."""
+    pids = sorted(set(PID.findall("\n".join(lines))))
+    other = dict(zip(pids, chance.sample(range(80, 400), len(pids))))
+    groups = groups_of(lines, total)
+    mixed = []
+    while any(groups):
+        mixed.append(chance.choice([group for group in groups if group]).pop(0))
+    return [PID.sub(lambda found: f"<0.{other[found[1]]}.0>", line) for line in mixed]
+
+
+def changes(trace, chance):
+    """Traces that differ: one message changed, one dropped, two of one process swapped, one more."""
+    if not trace:
+        return [["{trace,<0.81.0>,call,{m,f,[]}}"]]
+    place = chance.randrange(len(trace))
+    changed = [*trace[:place], re.sub(r"\{trace,(<[^>]+>),\w+", r"{trace,\1,link", trace[place]), *trace[place + 1 :]]
+    dropped = [*trace[:place], *trace[place + 1 :]]
+    places = [n for n, line in enumerate(trace) if process_of(line) == process_of(trace[place])]
+    swapped = list(trace)
+    swapped[places[0]], swapped[places[-1]] = trace[places[-1]], trace[places[0]]
+    return [changed, dropped, swapped, [*trace, trace[place]]]
+
+
+# Systems with words of the command line; each has one session.
+SYSTEMS = (
+    ("race", ""),
+    ("race", "--order total"),
+    ("pool", "--control first"),
+    ("pool", "--order total --control first"),
+    ("pool", ""),
+    ("spawn_inheritance", ""),
+    ("worker_pool", "--order total"),
+    ("second_send", ""),
+    ("pool", "--max-states 1500"),
+    ("race", "--max-states 1"),
+)
+
+# How a text may be laid out, by its messages.
+LAYOUTS = (
+    "\n".join,
+    lambda lines: "".join(f"{line}.\n" for line in lines),
+    lambda lines: "% a trace\n\n" + "".join(f"  {line} .\r\n" for line in lines) + "\n",
+)
+
+
+def comparisons():
+    """Traces of entries, with other pids and in other orders, and changed ones, against an independent comparison."""
+    chance = random.Random(62)
+    for name, words in SYSTEMS:
+        script, options = script_of(name), shlex.split(words)
+        [(entries, end)] = searches(run(["explore", *options], script).stdout.decode())
+        [header] = headers(script)
+        total, whole = "total" in words, end[1] is not None
+        for journal, text in chance.sample(entries, min(8, len(entries))):
+            trace = printed(text.splitlines()[1:], total, chance)
+            for n, lines in enumerate([trace, trace[: len(trace) // 2], *changes(trace, chance)]):
+                for goes_on in (False, True):
+                    lay = LAYOUTS[n % len(LAYOUTS)]
+                    ran = compare(script, lay(lines), [*options, *(["--prefix"] if goes_on else [])])
+                    told, status = answer(lines, entries, whole, total, goes_on)
+                    wanted = header + told + end[0]
+                    good = ran.returncode == status and ran.stdout.decode() == wanted and not ran.stderr
+                    check(f"compare {words} with {name}, {journal}, change {n}, {goes_on}", good, (wanted, ran))
+
+
+def possible_runs():
+    """The journal of a trace that is possible gives these messages, with the pids that are said."""
+    chance = random.Random(27)
+    for name in ("race", "pool", "spawn_inheritance"):
+        script = script_of(name)
+        [(entries, _)] = searches(run(["explore"], script).stdout.decode())
+        for _, text in chance.sample(entries, min(5, len(entries))):
+            trace = printed(text.splitlines()[1:], False, chance)
+            told = compare(script, "\n".join(trace), []).stdout.decode()
+            journal = re.search(r"(?m)^possible: journal ?(.*)$", told)[1]
+            pids = dict(re.findall(r"(?m)^<0\.(\d+)\.0> is <0\.(\d+)\.0>$", told))
+            lines = run(["replay", "--quiet", "--picks", journal], script).stdout.decode().partition("== replies\n")[0].splitlines()[1:]
+            ours = [PID.sub(lambda found: f"<0.{pids[found[1]]}.0>", line) for line in trace]
+            by_process = lambda messages: sorted(messages, key=process_of)
+            check(f"the run of a trace of {name}", by_process(ours) == by_process(lines), (ours, lines))
+
+
+# Texts that are no traces: the line, and why.
+NO_TRACES = (
+    ("{trace,<0.84.0>,call,{m,f,[]}}\n{trace\n", 2, "it spells no term"),
+    ("hello\n", 1, "it is no trace message"),
+    ("{trace,a,call}\n", 1, "it is no trace message"),
+    ("{trace,<0.84.0>}\n", 1, "it is no trace message"),
+    ("% nothing\n\n{trace,<0.84.0>,call,{m,f,[]}} x\n", 3, "it spells no term"),
+    ("[" * 33 + "]" * 33, 1, "it nests too deep"),
+)
+
+
+def bad_traces():
+    """Texts that are no traces, files that aren't there, and what the command line lacks."""
+    for text, line, why in NO_TRACES:
+        ran = compare(SEND_HI, text, [])
+        told = re.fullmatch(rb"(?:error: )?\S*trace\.txt:(\d+): (.*)\n", ran.stderr)
+        good = ran.returncode == 2 and not ran.stdout and told and (int(told[1]), told[2].decode()) == (line, why)
+        check(f"compare with {text[:40]}", good, ran)
+    for words in (["--trace", "/no/such/file"], [], ["--trace", "/"], ["--trace", "x", "--max-states", "0"]):
+        ran = run(["compare", *words], SEND_HI)
+        check(f"compare {' '.join(words)}", ran.returncode == 2 and not ran.stdout and ran.stderr, ran)
+    ran = compare(b"{", "", [])
+    check("compare with a bad script", (ran.returncode, ran.stdout) == (2, b"refused 2 token at 1\n"), ran)
+    ran = compare(SEND_HI, "", ["--session", "nobody"])
+    check("compare without its session", ran.returncode == 2 and ran.stderr == b"error: the script creates no session nobody\n", ran)
+    ran = compare(SEND_HI, "", ["--max-output", "10"])
+    check("compare past its bound", ran.returncode == 3 and not ran.stdout and ran.stderr.startswith(b"fault"), ran)
