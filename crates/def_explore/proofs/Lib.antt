@@ -2,6 +2,7 @@ pub mod Lists
 pub mod Alike
 pub mod Passes
 pub mod Closed
+pub mod AllRuns
 pub mod SameEntries
 mod Words
 mod Independent

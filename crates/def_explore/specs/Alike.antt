@@ -29,10 +29,6 @@ HasStateOf q ss p js picks = OneOf (IsStateAlike q ss p picks) js
 abbrev pub HasNext : RunQuestion → List Name → Program → List (List ℕ) → List ℕ → Type 0
 HasNext q ss p js j = (pick : ℕ) → IsMovingAfter p j pick → HasStateOf q ss p js (j ++ pick ∷ [])
 
--- that is so after each of them
-abbrev pub IsClosed : RunQuestion → List Name → Program → List (List ℕ) → Type 0
-IsClosed q ss p js = EachOf (HasNext q ss p js) js
-
 -- ---- picks that can go first
 
 -- the pick is one of these

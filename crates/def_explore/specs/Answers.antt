@@ -1,12 +1,11 @@
--- What an exploration answers: entries with journals, and the states (own).
--- Depends on runs to rest, on what is kept in them, and on picks that lead to the same state.
+-- What an exploration answers: entries with journals (own).
+-- Depends on runs to rest, and on what is kept in them.
 use Rattle.std.specs.Prelude.{◌≡◌, ◌<◌, ◌≤◌, ℕ, List, [], ◌∷◌, ◌++◌, length}
 use Rattle.def_term.specs.Names.{Name}
 use Rattle.def_script.specs.Program.{Program}
 use Rattle.def_run.specs.Run.{JOURNAL, moves}
 use Rattle.def_explore.specs.Lists.{OneOf, EachOf}
 use Rattle.def_explore.specs.Rests.{IsRestAfter, RunQuestion, KeptMessages, kept_in}
-use Rattle.def_explore.specs.Alike.{HasStateOf}
 
 -- the journal goes on from the moves of the first picks, and each of its picks moves
 pub record IsJournalFrom (p : Program) (before journal : List ℕ) : Type 0 where
@@ -55,9 +54,3 @@ AreShortest q ss p before es = (more : List ℕ) → IsRestAfter p (before ++ mo
 abbrev pub AreDistinct : List RestEntry → Type 0
 AreDistinct [] = Unit {0}
 AreDistinct (e ∷ es) = EachOf (λ f. e.kept ≡ f.kept → ⊥) es × AreDistinct es
-
--- ---- states
-
--- whatever picks come after the first ones, one of these journals leads to the state that they lead to
-abbrev pub HaveAllStates : RunQuestion → List Name → Program → List ℕ → List (List ℕ) → Type 0
-HaveAllStates q ss p before js = (more : List ℕ) → HasStateOf q ss p js (before ++ more)

@@ -9,10 +9,11 @@ use Rattle.def_script.specs.Program.{Program}
 use Rattle.def_run.specs.Run.{JOURNAL, moves}
 use Rattle.def_run.specs.Round.{pass}
 use Rattle.def_run.specs.Laws.{IsIdleAfter}
-use Rattle.def_explore.specs.Rests.{IsMovingAfter, IsRestAfter, RunQuestion}
-use Rattle.def_explore.specs.Alike.{IsStateAlike, HasStateOf, IsClosed, is_pick_among, AreIndependent, IsReduced}
+use Rattle.def_explore.specs.Rests.{IsMovingAfter, IsRestAfter, RunQuestion, KeptMessages}
+use Rattle.def_explore.specs.Alike.{IsStateAlike, HasStateOf, is_pick_among, AreIndependent, IsReduced}
+use Rattle.def_explore.specs.Followed.{IsEndAfter, AreSoundWithin, AreCompleteWithin, AreShortestWithin, IsClosed, HaveAllStates, all_runs}
 use Rattle.def_explore.specs.Lists.{OneOf, EachOf}
-use Rattle.def_explore.specs.Answers.{RestEntry, IsEntryFor, IsNoLonger, AreSound, AreComplete, AreCompleteBelow, AreShortest, HaveAllStates}
+use Rattle.def_explore.specs.Answers.{RestEntry, IsEntryFor, IsNoLonger, AreSound, AreComplete, AreCompleteBelow, AreShortest}
 use Rattle.def_explore.specs.Words.{Word, always, never, sometimes, shows, IsTrueWord, AllShow, word_of, any_word, meets, PatternQuestion, refutes}
 
 -- ---- alike
@@ -45,31 +46,49 @@ MovesAreOfAPass = (p : Program) (picks : List ℕ) (pick : ℕ) → length p.ent
 
 -- ---- closed journals
 
--- where the journals have the first picks and are closed, they have all states that come after those
+-- where the journals have the first picks and are closed, they have all states of runs that are followed from those
 abbrev pub ClosedJournalsHaveAll : Type 0
 ClosedJournalsHaveAll =
-    (q : RunQuestion) (ss : List Name) (p : Program) (js : List (List ℕ)) (before : List ℕ) →
-    HasStateOf q ss p js before → IsClosed q ss p js → HaveAllStates q ss p before js
+    (admits : KeptMessages → Bool) (q : RunQuestion) (ss : List Name) (p : Program) (js : List (List ℕ)) (before : List ℕ) →
+    HasStateOf q ss p js before → IsClosed admits q ss p js → HaveAllStates admits q ss p before js
 
 -- each of the journals after which nothing moves has an entry
 abbrev pub RestsHaveEntries : RunQuestion → List Name → Program → List (List ℕ) → List RestEntry → Type 0
 RestsHaveEntries q ss p js es = EachOf (λ j. IsRestAfter p j → OneOf (IsEntryFor q ss p j) es) js
 
+-- each of those with which a run ends has one
+abbrev pub EndsHaveEntries : (KeptMessages → Bool) → RunQuestion → List Name → Program → List (List ℕ) → List RestEntry → Type 0
+EndsHaveEntries admits q ss p js es = EachOf (λ j. IsEndAfter admits q ss p j → OneOf (IsEntryFor q ss p j) es) js
+
 -- so that the entries are complete
 abbrev pub ClosedJournalsAreComplete : Type 0
 ClosedJournalsAreComplete =
-    (q : RunQuestion) (ss : List Name) (p : Program) (js : List (List ℕ)) (before : List ℕ) (es : List RestEntry) →
-    HasStateOf q ss p js before → IsClosed q ss p js → RestsHaveEntries q ss p js es → AreComplete q ss p before es
+    (admits : KeptMessages → Bool) (q : RunQuestion) (ss : List Name) (p : Program) (js : List (List ℕ)) (before : List ℕ) (es : List RestEntry) →
+    HasStateOf q ss p js before → IsClosed admits q ss p js → EndsHaveEntries admits q ss p js es → AreCompleteWithin admits q ss p before es
 
--- no entry is longer than one of the journals after which nothing moves and of which the same is kept
-abbrev pub RestsAreNoShorter : RunQuestion → List Name → Program → List (List ℕ) → List RestEntry → Type 0
-RestsAreNoShorter q ss p js es = EachOf (λ j. IsRestAfter p j → EachOf (IsNoLonger q ss p j) es) js
+-- no entry is longer than one of the journals with which a run ends and of which the same is kept
+abbrev pub EndsAreNoShorter : (KeptMessages → Bool) → RunQuestion → List Name → Program → List (List ℕ) → List RestEntry → Type 0
+EndsAreNoShorter admits q ss p js es = EachOf (λ j. IsEndAfter admits q ss p j → EachOf (IsNoLonger q ss p j) es) js
 
--- so that none is longer than any run to rest of which the same is kept
+-- so that none is longer than any run to its end of which the same is kept
 abbrev pub ClosedJournalsAreShortest : Type 0
 ClosedJournalsAreShortest =
-    (q : RunQuestion) (ss : List Name) (p : Program) (js : List (List ℕ)) (before : List ℕ) (es : List RestEntry) →
-    HasStateOf q ss p js before → IsClosed q ss p js → RestsAreNoShorter q ss p js es → AreShortest q ss p before es
+    (admits : KeptMessages → Bool) (q : RunQuestion) (ss : List Name) (p : Program) (js : List (List ℕ)) (before : List ℕ) (es : List RestEntry) →
+    HasStateOf q ss p js before → IsClosed admits q ss p js → EndsAreNoShorter admits q ss p js es → AreShortestWithin admits q ss p before es
+
+-- ---- all runs
+
+-- where each run is followed, entries of runs to their ends are of runs to rest
+abbrev pub AllRunsAreSound : Type 0
+AllRunsAreSound = (q : RunQuestion) (ss : List Name) (p : Program) (before : List ℕ) (es : List RestEntry) → AreSoundWithin all_runs q ss p before es → AreSound q ss p before es
+
+-- they are complete
+abbrev pub AllRunsAreComplete : Type 0
+AllRunsAreComplete = (q : RunQuestion) (ss : List Name) (p : Program) (before : List ℕ) (es : List RestEntry) → AreCompleteWithin all_runs q ss p before es → AreComplete q ss p before es
+
+-- and shortest
+abbrev pub AllRunsAreShortest : Type 0
+AllRunsAreShortest = (q : RunQuestion) (ss : List Name) (p : Program) (before : List ℕ) (es : List RestEntry) → AreShortestWithin all_runs q ss p before es → AreShortest q ss p before es
 
 -- ---- one answer
 

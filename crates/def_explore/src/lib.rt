@@ -2,12 +2,13 @@
 //! runs to rest answers.
 //!
 //! Depends on def_term, def_spec, def_script, def_session and def_run. Promises, as laws, that closed journals
-//! have all states, and that entries of those at rest are complete and shortest.
+//! have all states, and that entries of those with which a run ends are complete and shortest.
 #![tactic(auto)]
 
 ghost use Rattle.def_explore.specs.Laws.{AlikeGoesOn, AlikeAreIdleAlike, AlikeHaveMovedAlike};
 ghost use Rattle.def_explore.specs.Laws.{IdleIsAlike, MovesAreAlike, MovesAreOfAPass};
 ghost use Rattle.def_explore.specs.Laws.{ClosedJournalsHaveAll, ClosedJournalsAreComplete, ClosedJournalsAreShortest};
+ghost use Rattle.def_explore.specs.Laws.{AllRunsAreSound, AllRunsAreComplete, AllRunsAreShortest};
 ghost use Rattle.def_explore.specs.Laws.{EntriesAreDetermined};
 ghost use Rattle.def_explore.specs.Laws.{WordIsOne, EntriesShowAll, WordOfEntriesIsTrue};
 ghost use Rattle.def_explore.specs.Laws.{NoTrueWordMeetsWhatIsRefuted, WordMeetsWhatIsNotRefuted};
@@ -29,12 +30,19 @@ pub fn moves_are_of_a_pass()
     ensures { MovesAreOfAPass }
 {}
 
-/// Journals that are closed under each pick have the states of all picks. So entries of those of them after which
-/// nothing moves are entries of all runs to rest, and as short as any.
+/// Journals that are closed under each pick have the states of all runs that are followed. So entries of those of them
+/// with which a run ends are entries of all runs to their ends, and as short as any.
 pub fn closed_journals_are_complete()
     ensures all { ClosedJournalsHaveAll }
     ensures complete { ClosedJournalsAreComplete }
     ensures shortest { ClosedJournalsAreShortest }
+{}
+
+/// Where each run is followed, entries of runs to their ends are those of all runs to rest.
+pub fn all_runs_are_followed()
+    ensures sound { AllRunsAreSound }
+    ensures complete { AllRunsAreComplete }
+    ensures shortest { AllRunsAreShortest }
 {}
 
 /// Two lists of entries that are sound, complete and shortest have the same, with journals that are as long.

@@ -7,7 +7,7 @@ use Rattle.def_explore.specs.Rests.{KeptMessages}
 use Rattle.def_explore.specs.Lists.{OneOf, EachOf}
 use Rattle.tn_explore.specs.Query.{Query, kept_for}
 use Rattle.tn_explore.specs.SearchStates.{KeepsFor, EqualsByKept}
-use Rattle.tn_explore.specs.Searches.{answer_entry, answer_entries, AnswersRest}
+use Rattle.tn_explore.specs.Searches.{answer_entry, answer_entries, AnswersEnd}
 use Rattle.tn_explore.proofs.Lists.{map_both}
 use Rattle.tn_explore.proofs.Tries.{both_ways}
 
@@ -31,15 +31,15 @@ module _ {A M : Type 0} (eq : M → M → Bool) (Seen : M → KeptMessages) (by_
       go rest false e k = (λ same. both_ways (eq m pair.0) ((by_kept m pair.0).1 (sym same)) e, rest k)
 
   module _ {S : Type 0} (Journal : S → List ℕ) (IsOf : S → Query → Type 0) (s : S) (keeps : KeepsFor Journal IsOf Seen s m) where
-    pub answered : (pairs : List (M × Vec ℕ A)) → is_some (lookup (eq m) pairs) ≡ true → AnswersRest Journal IsOf s (answer_entries Seen pairs) (answer_entries Seen pairs)
-    answered pairs h a is_of rests = inl (record { same = refl; has = λ again. subst (λ k. OneOf (λ e. e.kept ≡ k) (answer_entries Seen pairs)) (keeps a is_of) (lookup_has pairs h) })
+    pub answered : (pairs : List (M × Vec ℕ A)) → is_some (lookup (eq m) pairs) ≡ true → AnswersEnd Journal IsOf s (answer_entries Seen pairs) (answer_entries Seen pairs)
+    answered pairs h a is_of ends = inl (record { same = refl; has = λ again. subst (λ k. OneOf (λ e. e.kept ≡ k) (answer_entries Seen pairs)) (keeps a is_of) (lookup_has pairs h) })
 
-    pub answers_more : (pairs new : List (M × Vec ℕ A)) (v : Vec ℕ A) → is_some (lookup (eq m) pairs) ≡ false → new ≡ pairs ++ (m, v) ∷ [] → v.items ≡ Journal s → AnswersRest Journal IsOf s (answer_entries Seen pairs) (answer_entries Seen new)
-    answers_more pairs new v lacks longer journal a is_of rests =
+    pub answers_more : (pairs new : List (M × Vec ℕ A)) (v : Vec ℕ A) → is_some (lookup (eq m) pairs) ≡ false → new ≡ pairs ++ (m, v) ∷ [] → v.items ≡ Journal s → AnswersEnd Journal IsOf s (answer_entries Seen pairs) (answer_entries Seen new)
+    answers_more pairs new v lacks longer journal a is_of ends =
         let same : Seen m ≡ kept_for a (Journal s) = keeps a is_of in
         inr (record {
           longer = ap (answer_entries Seen) longer ∙ map_both (answer_entry Seen) pairs ((m, v) ∷ []) ∙ (λ i. answer_entries Seen pairs ++ record { kept = same i; journal = journal i } ∷ []);
-          rests = rests;
+          ends = ends;
           fresh = subst (λ k. EachOf (λ e. e.kept ≡ k → ⊥) (answer_entries Seen pairs)) same (lookup_lacks pairs lacks);
         })
 

@@ -2,13 +2,15 @@
 use Rattle.std.proofs.Common.{◌≡◌, ◌<◌, ◌≤◌, ◌+◌, ℕ, List, [], ◌∷◌, ◌++◌, length, map, take, get_or, Bool, true, false, refl, sym, ap, ◌∙◌, subst, append-nil, append_assoc, length-append, if◌then◌else◌}
 use Rattle.std.proofs.lemmas.List.{take_all}
 use Rattle.std.proofs.lemmas.List.Elements.{All-nil, All-more, All-weaker}
+use Rattle.def_term.specs.Names.{Name}
 use Rattle.def_script.specs.Program.{Program}
 use Rattle.def_run.specs.Run.{moves, start, pick_step_after}
 use Rattle.def_run.proofs.Appends.{moves-append}
 use Rattle.def_run.specs.Laws.{IsIdleAfter}
-use Rattle.def_explore.specs.Rests.{IsMovingAfter}
+use Rattle.def_explore.specs.Rests.{IsMovingAfter, KeptMessages, RunQuestion, kept_in}
+use Rattle.def_explore.specs.Followed.{IsFollowed}
 use Rattle.def_explore.proofs.Lists.{one_before}
-use Rattle.tn_explore.specs.Query.{Query, AlikeFor, HasStateFor}
+use Rattle.tn_explore.specs.Query.{Query, AdmitsFor, AlikeFor, HasStateFor}
 use Rattle.tn_explore.specs.SearchStates.{StepGives}
 use Rattle.tn_explore.specs.Searches.{IsAt, AreAt, AddsState, Tries}
 
@@ -66,16 +68,25 @@ module _ {S : Type 0} (Journal : S → List ℕ) (IsOf : S → Query → Type 0)
   pub tries_end : (picks : List ℕ) (i : ℕ) (old new : List S) (moved : Bool) → length picks ≤ i → Tries Journal IsOf a depth s (take i picks) old new moved → Tries Journal IsOf a depth s picks old new moved
   tries_end picks i old new moved all t = subst (λ ps. Tries Journal IsOf a depth s ps old new moved) (take_all i picks all) t
 
+-- a run that is followed and admitted is followed by one more pick
+followed_more : (admits : KeptMessages → Bool) (q : RunQuestion) (ss : List Name) (p : Program) (more picks : List ℕ) (pick : ℕ) → IsFollowed admits q ss p picks more → admits (kept_in q ss p (picks ++ more)) ≡ true → IsFollowed admits q ss p picks (more ++ pick ∷ [])
+followed_more admits q ss p [] picks pick h admitted = (subst (λ js. admits (kept_in q ss p js) ≡ true) (append-nil picks) admitted, tt)
+followed_more admits q ss p (one ∷ more) picks pick h admitted =
+    (h.0, followed_more admits q ss p more (picks ++ one ∷ []) pick h.1 (subst (λ js. admits (kept_in q ss p js) ≡ true) (sym (append_assoc picks (one ∷ []) more)) admitted))
+
 -- the state after a step is where its journal leads
-pub stepped_at : {S : Type 0} (Journal : S → List ℕ) (IsOf : S → Query → Type 0) (a : Query) (depth : ℕ) (s : S) (pick : ℕ) (t : S) → IsAt Journal IsOf a depth s → StepGives Journal IsOf a (Journal s) pick t true → IsAt Journal IsOf a (depth + 1) t
-stepped_at Journal IsOf a depth s pick t here gives =
+pub stepped_at : {S : Type 0} (Journal : S → List ℕ) (IsOf : S → Query → Type 0) (a : Query) (depth : ℕ) (s : S) (pick : ℕ) (t : S) → AdmitsFor a (Journal s) → IsAt Journal IsOf a depth s → StepGives Journal IsOf a (Journal s) pick t true → IsAt Journal IsOf a (depth + 1) t
+stepped_at Journal IsOf a depth s pick t admitted here gives =
     let counted : length (Journal t) ≡ length (Journal s) + 1 = ap length gives.1 ∙ length-append (Journal s) (pick ∷ []) in
     record {
       is_of = gives.2;
       from = record {
-        more = here.from.more ++ pick ∷ [];
-        goes_on = gives.1 ∙ ap (λ xs. xs ++ pick ∷ []) here.from.goes_on ∙ append_assoc (moves a.program a.before) here.from.more (pick ∷ []);
-        moved = ap (moves a.program) gives.1 ∙ moved_one a.program (Journal s) pick here.from.moved gives.0 ∙ sym gives.1;
+        from = record {
+          more = here.from.from.more ++ pick ∷ [];
+          goes_on = gives.1 ∙ ap (λ xs. xs ++ pick ∷ []) here.from.from.goes_on ∙ append_assoc (moves a.program a.before) here.from.from.more (pick ∷ []);
+          moved = ap (moves a.program) gives.1 ∙ moved_one a.program (Journal s) pick here.from.from.moved gives.0 ∙ sym gives.1;
+        };
+        followed = followed_more a.admits a.question a.sessions a.program here.from.from.more (moves a.program a.before) pick here.from.followed (subst (AdmitsFor a) here.from.from.goes_on admitted);
       };
       long = counted ∙ ap (λ n. n + 1) here.long;
     }

@@ -1,21 +1,29 @@
 -- What is asked of a program, and what the definitions of an exploration say of it.
 -- Depends on the definitions of an exploration.
-use Rattle.std.specs.Prelude.{ℕ, List}
+use Rattle.std.specs.Prelude.{◌≡◌, ℕ, Bool, true, List}
 use Rattle.def_term.specs.Names.{Name}
 use Rattle.def_script.specs.Program.{Program}
+use Rattle.def_run.specs.Run.{moves}
 use Rattle.def_explore.specs.Rests.{RunQuestion, KeptMessages, kept_in}
-use Rattle.def_explore.specs.Alike.{IsStateAlike, HasStateOf, HasNext}
-use Rattle.def_explore.specs.Answers.{RestEntry, IsJournalFrom, IsEntryFor, IsNoLonger, HaveAllStates}
+use Rattle.def_explore.specs.Alike.{IsStateAlike, HasStateOf}
+use Rattle.def_explore.specs.Answers.{RestEntry, IsJournalFrom, IsEntryFor, IsNoLonger}
+use Rattle.def_explore.specs.Followed.{IsFollowed, IsEndAfter, HasNextWithin, HaveAllStates}
 
--- a program, the picks that a run begins with, a question, and the sessions that it is about
+-- a program, the picks that a run begins with, a question, the sessions that it is about, and what is kept of the runs that are followed
 pub record Query : Type 0 where
   pub program : Program
   pub before : List ℕ
   pub question : RunQuestion
   pub sessions : List Name
+  pub admits : KeptMessages → Bool
 
-abbrev pub JournalFor : Query → List ℕ → Type 0
-JournalFor a = IsJournalFrom a.program a.before
+-- the journal goes on from the first picks, each of its picks moves, and it is followed
+pub record JournalFor (a : Query) (journal : List ℕ) : Type 0 where
+  pub from : IsJournalFrom a.program a.before journal
+  pub followed : IsFollowed a.admits a.question a.sessions a.program (moves a.program a.before) from.more
+
+abbrev pub EndFor : Query → List ℕ → Type 0
+EndFor a = IsEndAfter a.admits a.question a.sessions a.program
 
 abbrev pub AlikeFor : Query → List ℕ → List ℕ → Type 0
 AlikeFor a = IsStateAlike a.question a.sessions a.program
@@ -24,10 +32,10 @@ abbrev pub HasStateFor : Query → List (List ℕ) → List ℕ → Type 0
 HasStateFor a = HasStateOf a.question a.sessions a.program
 
 abbrev pub HasNextFor : Query → List (List ℕ) → List ℕ → Type 0
-HasNextFor a = HasNext a.question a.sessions a.program
+HasNextFor a = HasNextWithin a.admits a.question a.sessions a.program
 
 abbrev pub HaveAllFor : Query → List (List ℕ) → Type 0
-HaveAllFor a = HaveAllStates a.question a.sessions a.program a.before
+HaveAllFor a = HaveAllStates a.admits a.question a.sessions a.program a.before
 
 abbrev pub kept_for : Query → List ℕ → KeptMessages
 kept_for a picks = kept_in a.question a.sessions a.program picks
@@ -41,3 +49,7 @@ EntryFor a = IsEntryFor a.question a.sessions a.program
 
 abbrev pub NoLongerFor : Query → List ℕ → RestEntry → Type 0
 NoLongerFor a = IsNoLonger a.question a.sessions a.program
+
+-- what is kept of the run by the journal is admitted
+abbrev pub AdmitsFor : Query → List ℕ → Type 0
+AdmitsFor a journal = a.admits (kept_for a journal) ≡ true

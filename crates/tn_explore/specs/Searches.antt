@@ -4,10 +4,11 @@ use Rattle.std.specs.Prelude.{◌≡◌, ◌≤◌, ◌+◌, ◌⊎◌, ℕ, Boo
 use Rattle.std.specs.declared.vec.Vec.{Vec}
 use Rattle.std.below.core.specs.declared.int.usize.TheConstants.{MAX}
 use Rattle.def_run.specs.Laws.{IsIdleAfter}
-use Rattle.def_explore.specs.Rests.{IsMovingAfter, IsRestAfter, KeptMessages}
+use Rattle.def_explore.specs.Rests.{IsMovingAfter, KeptMessages}
 use Rattle.def_explore.specs.Lists.{OneOf, EachOf}
-use Rattle.def_explore.specs.Answers.{RestEntry, AreDistinct, AreSound, AreComplete, AreShortest}
-use Rattle.tn_explore.specs.Query.{Query, JournalFor, HasStateFor, HasNextFor, HaveAllFor, EntryFor, NoLongerFor, kept_for, entry_for}
+use Rattle.def_explore.specs.Answers.{RestEntry, AreDistinct}
+use Rattle.def_explore.specs.Followed.{AreSoundWithin, AreCompleteWithin, AreShortestWithin}
+use Rattle.tn_explore.specs.Query.{Query, JournalFor, HasStateFor, HasNextFor, HaveAllFor, EndFor, EntryFor, NoLongerFor, kept_for, entry_for}
 
 -- the entry of a pair: what is kept, and the journal
 abbrev pub answer_entry : {A M : Type 0} → (M → KeptMessages) → M × Vec ℕ A → RestEntry
@@ -16,7 +17,7 @@ answer_entry Seen pair = record { kept = Seen pair.0; journal = pair.1.items }
 abbrev pub answer_entries : {A M : Type 0} → (M → KeptMessages) → List (M × Vec ℕ A) → List RestEntry
 answer_entries Seen pairs = map (answer_entry Seen) pairs
 
--- the state is where its journal leads, whose picks each moved, which goes on from the first picks, and which is so long
+-- the state is where its journal leads, whose picks each moved, which goes on from the first picks and is followed, and which is so long
 pub record IsAt {S : Type 0} (Journal : S → List ℕ) (IsOf : S → Query → Type 0) (a : Query) (depth : ℕ) (s : S) : Type 0 where
   pub is_of : IsOf s a
   pub from : JournalFor a (Journal s)
@@ -46,24 +47,24 @@ pub record Tries {S : Type 0} (Journal : S → List ℕ) (IsOf : S → Query →
   pub idle : moved ≡ false → All (λ pick. IsIdleAfter a.program (Journal s) pick) picks
   pub moves : IsTrue moved → (pick : ℕ) × IsMovingAfter a.program (Journal s) pick
 
--- no answer is missing: the entries stay, and have that of the journal where nothing moves after it
+-- no answer is missing: the entries stay, and have that of the journal where a run ends with it
 pub record KeepsEntries (a : Query) (journal : List ℕ) (es fs : List RestEntry) : Type 0 where
   pub same : fs ≡ es
-  pub has : IsRestAfter a.program journal → OneOf (EntryFor a journal) es
+  pub has : EndFor a journal → OneOf (EntryFor a journal) es
 
--- nothing moves after the journal, none of the entries keeps what it keeps, and its entry is the last from now on
+-- a run ends with the journal, none of the entries keeps what it keeps, and its entry is the last from now on
 pub record GainsAnswer (a : Query) (journal : List ℕ) (es fs : List RestEntry) : Type 0 where
   pub longer : fs ≡ es ++ entry_for a journal ∷ []
-  pub rests : IsRestAfter a.program journal
+  pub ends : EndFor a journal
   pub fresh : EachOf (λ e. e.kept ≡ kept_for a journal → ⊥) es
 
--- a state at rest has its entry
+-- a state with which a run ends has its entry
 abbrev pub Answers : Query → List ℕ → List RestEntry → List RestEntry → Type 0
 Answers a journal es fs = KeepsEntries a journal es fs ⊎ GainsAnswer a journal es fs
 
 -- the entry of the state is there, or comes last
-abbrev pub AnswersRest : {S : Type 0} → (S → List ℕ) → (S → Query → Type 0) → S → List RestEntry → List RestEntry → Type 0
-AnswersRest Journal IsOf s es fs = (a : Query) → IsOf s a → IsRestAfter a.program (Journal s) → Answers a (Journal s) es fs
+abbrev pub AnswersEnd : {S : Type 0} → (S → List ℕ) → (S → Query → Type 0) → S → List RestEntry → List RestEntry → Type 0
+AnswersEnd Journal IsOf s es fs = (a : Query) → IsOf s a → EndFor a (Journal s) → Answers a (Journal s) es fs
 
 -- a state was tried, with more states after it
 pub record TriesState {S : Type 0} (Journal : S → List ℕ) (IsOf : S → Query → Type 0) (a : Query) (depth : ℕ) (s : S) (old new : List S) (es fs : List RestEntry) : Type 0 where
@@ -73,15 +74,15 @@ pub record TriesState {S : Type 0} (Journal : S → List ℕ) (IsOf : S → Quer
   pub next : HasNextFor a (map Journal new) (Journal s)
   pub answers : Answers a (Journal s) es fs
 
--- some journals that are known, of which some were tried; the entries are those of the latter at rest
+-- some journals that are known, of which some were tried; the entries are those of the latter with which a run ends
 pub record HaveTried (a : Query) (depth : ℕ) (known tried : List (List ℕ)) (es : List RestEntry) : Type 0 where
   pub from : EachOf (JournalFor a) known
   pub first : HasStateFor a known a.before
   pub next : EachOf (HasNextFor a known) tried
-  pub entries : EachOf (λ j. IsRestAfter a.program j → OneOf (EntryFor a j) es) tried
-  pub shortest : EachOf (λ j. IsRestAfter a.program j → EachOf (NoLongerFor a j) es) tried
+  pub entries : EachOf (λ j. EndFor a j → OneOf (EntryFor a j) es) tried
+  pub shortest : EachOf (λ j. EndFor a j → EachOf (NoLongerFor a j) es) tried
   pub short : EachOf (λ e. length e.journal ≤ depth) es
-  pub sound : AreSound a.question a.sessions a.program a.before es
+  pub sound : AreSoundWithin a.admits a.question a.sessions a.program a.before es
   pub distinct : AreDistinct es
 
 -- the states of a layer were tried, all of them where it is complete, and else until the next one has so many; `tried` are the journals before them
@@ -92,7 +93,7 @@ pub record TriesLayer {S : Type 0} (Journal : S → List ℕ) (IsOf : S → Quer
   pub all : IsTrue complete → done ≡ tried ++ map Journal ss
   pub stops : complete ≡ false → room ≤ length new
 
--- so many journals go on from the first picks, or more than are counted, and have all states where all were tried
+-- so many journals go on from the first picks and are followed, or more than are counted, and have all states where all were tried
 pub record CountsStates (a : Query) (states : ℕ) (complete : Bool) : Type 0 where
   pub journals : List (List ℕ)
   pub from : EachOf (JournalFor a) journals
@@ -101,9 +102,9 @@ pub record CountsStates (a : Query) (states : ℕ) (complete : Bool) : Type 0 wh
 
 -- the entries are sound, each keeps something else, and where all states were tried they are complete and shortest; else so many states were met
 pub record Explores (a : Query) (es : List RestEntry) (max_states states : ℕ) (whole : Bool) : Type 0 where
-  pub sound : AreSound a.question a.sessions a.program a.before es
+  pub sound : AreSoundWithin a.admits a.question a.sessions a.program a.before es
   pub distinct : AreDistinct es
-  pub complete : IsTrue whole → AreComplete a.question a.sessions a.program a.before es
-  pub shortest : IsTrue whole → AreShortest a.question a.sessions a.program a.before es
+  pub complete : IsTrue whole → AreCompleteWithin a.admits a.question a.sessions a.program a.before es
+  pub shortest : IsTrue whole → AreShortestWithin a.admits a.question a.sessions a.program a.before es
   pub count : CountsStates a states whole
   pub stops : whole ≡ false → max_states ≤ states

@@ -2,8 +2,8 @@
 ghost use Rattle.std.specs.Prelude.{◌≡◌, ◌+◌, ℕ, List, [], ◌∷◌, ◌++◌, IfOk, IsTrue, map, true};
 ghost use Rattle.def_explore.specs.Answers.{RestEntry};
 ghost use Rattle.def_run.specs.Run.{moves};
-ghost use Rattle.tn_explore.specs.Query.{Query};
-ghost use Rattle.tn_explore.specs.Searches.{IsAt, AreAt, Tries, TriesState, TriesLayer, HaveTried, AnswersRest};
+ghost use Rattle.tn_explore.specs.Query.{Query, AdmitsFor};
+ghost use Rattle.tn_explore.specs.Searches.{IsAt, AreAt, Tries, TriesState, TriesLayer, HaveTried, AnswersEnd};
 ghost use Rattle.tn_explore.specs.Searches.{Explores, answer_entries};
 
 use crate::layer::Layer;
@@ -15,7 +15,7 @@ use std::hash::{BuildHasherDefault, FoldHasher, Hash};
 /// How many layers there may be: journals have up to 65,536 picks, and the layer after those is empty.
 const LAYERS: usize = 65538;
 
-/// What is kept of the states at rest, each once, with the journal that leads to the first of them.
+/// What is kept of the states with which runs end, each once, with the journal that leads to the first of them.
 pub type Answers<A, M> = IndexMap<M, Vec<u32, A>, BuildHasherDefault<FoldHasher>, A>;
 
 /// Tries the picks after a state: whether one moved.
@@ -25,7 +25,7 @@ fn try_picks<A: Allocator + Copy, S: SearchState<A>>(
     picks: &[u32],
     next: &mut Layer<A, S>,
 ) -> Result<bool, AllocError>
-    ensures { IfOk result (λ moved. (a : Query) (depth : ℕ) →
+    ensures { IfOk result (λ moved. (a : Query) (depth : ℕ) → AdmitsFor a (S.journal state.now) →
         AreAt S.journal (S.is_of context.now) a (depth + 1) next.old.states.items →
         IsAt S.journal (S.is_of context.now) a depth state.now →
         Tries S.journal (S.is_of context.now) a (depth + 1) state.now picks.now
@@ -42,13 +42,13 @@ fn try_picks<A: Allocator + Copy, S: SearchState<A>>(
     Ok(moved)
 }
 
-/// Answers a state at rest, where the same was kept of none before.
+/// Answers a state with which a run ends, where the same was kept of none before.
 fn answer<A: Allocator + Copy, S: SearchState<A>>(
     alloc: A,
     state: &S,
     answers: &mut Answers<A, S::Observation>,
 ) -> Result<(), AllocError>
-    ensures { IfOk result (λ _. (x : S.Context) → AnswersRest S.journal (S.is_of x) state.now
+    ensures { IfOk result (λ _. (x : S.Context) → AnswersEnd S.journal (S.is_of x) state.now
         (answer_entries S.kept_seen answers.old.entries) (answer_entries S.kept_seen answers.new.entries)) }
 {
     let observation = state.observe(alloc)?;
@@ -60,7 +60,7 @@ fn answer<A: Allocator + Copy, S: SearchState<A>>(
     Ok(())
 }
 
-/// Tries all picks after a state. Where none moves, it is answered.
+/// Tries all picks after a state. Where none moves, or what is kept is not admitted, it is answered.
 fn try_state<A: Allocator + Copy, S: SearchState<A>>(
     alloc: A,
     context: &S::Context,
@@ -74,6 +74,9 @@ fn try_state<A: Allocator + Copy, S: SearchState<A>>(
         TriesState S.journal (S.is_of context.now) a (depth + 1) state.now next.old.states.items next.new.states.items
         (answer_entries S.kept_seen answers.old.entries) (answer_entries S.kept_seen answers.new.entries)) }
 {
+    if !state.is_admitted(alloc)? {
+        return answer(alloc, state, answers);
+    }
     let picks = state.picks(alloc)?;
     let moved = try_picks(context, state, &picks, next)?;
     if moved {
@@ -109,7 +112,7 @@ fn try_layer<A: Allocator + Copy, S: SearchState<A>>(
 /// What a search answers.
 #[derive(Drop)]
 pub struct Exploration<A: Allocator, M: Eq + Hash> {
-    /// What is kept of the runs to rest, each with a journal that leads there.
+    /// What is kept of the runs to their ends, each with a journal that leads there.
     pub answers: Answers<A, M>,
     /// How many states were met; usize::MAX stands for any larger number.
     pub states: usize,
@@ -117,7 +120,8 @@ pub struct Exploration<A: Allocator, M: Eq + Hash> {
     pub is_complete: bool,
 }
 
-/// Tries all states from the first on, until so many were met. An error is refused memory.
+/// Tries all states from the first on, until so many were met. A run that is not admitted ends there. An error is
+/// refused memory.
 pub fn explore<A: Allocator + Copy, S: SearchState<A>>(
     alloc: A,
     context: &S::Context,

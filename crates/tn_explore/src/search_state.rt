@@ -7,7 +7,7 @@ pub trait SearchState<A: Allocator>: Sized + Drop {
     ghost use Rattle.std.specs.Prelude.{◌≡◌, ℕ, List, IfOk};
     ghost use Rattle.def_explore.specs.Rests.{KeptMessages};
     ghost use Rattle.tn_explore.specs.Query.{Query};
-    ghost use Rattle.tn_explore.specs.SearchStates.{IsCopy, AdvancesState, HasAllMoves, AreSame};
+    ghost use Rattle.tn_explore.specs.SearchStates.{IsCopy, AdvancesState, HasAllMoves, IsAdmitted, AreSame};
     ghost use Rattle.tn_explore.specs.SearchStates.{KeepsFor, EqualsByKept};
 
     /// What all states of a search have in common, as the program of a run.
@@ -28,6 +28,10 @@ pub trait SearchState<A: Allocator>: Sized + Drop {
     /// The picks that may move.
     fn picks(&self, alloc: A) -> Result<Vec<u32, A>, AllocError>
         ensures { IfOk result (λ v. (x : Self.Context) → HasAllMoves journal (is_of x) self.now v.items) };
+
+    /// Whether what is kept of its messages is admitted. Where it isn't, the run ends there.
+    fn is_admitted(&self, alloc: A) -> Result<bool, AllocError>
+        ensures { IfOk result (λ b. (x : Self.Context) → IsAdmitted journal (is_of x) self.now b) };
 
     /// The same state, which shares what this one has.
     fn share(&self) -> Result<Self, AllocError>
