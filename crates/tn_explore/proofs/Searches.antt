@@ -8,20 +8,21 @@ use Rattle.def_run.proofs.Replay.{room_spent}
 use Rattle.def_run.specs.Laws.{IsIdleAfter}
 use Rattle.def_explore.specs.Rests.{IsMovingAfter, IsRestAfter}
 use Rattle.def_explore.specs.Lists.{OneOf, EachOf}
-use Rattle.def_explore.specs.Answers.{RestEntry, IsRestEntry, AreDistinct}
+use Rattle.def_explore.specs.Answers.{RestEntry, AreDistinct}
+use Rattle.def_explore.specs.Followed.{IsEndEntry}
 use Rattle.def_explore.proofs.Lists.{one_before, one_after, each_also, each_both}
 use Rattle.def_explore.proofs.Alike.{moves_alike}
 use Rattle.def_explore.proofs.Closed.{state_by, closed_have_all, closed_are_complete, closed_are_shortest}
-use Rattle.tn_explore.specs.Query.{Query, JournalFor, AlikeFor, HasStateFor, HasNextFor, EntryFor, NoLongerFor, entry_for}
-use Rattle.tn_explore.specs.SearchStates.{HasAllMoves}
-use Rattle.tn_explore.specs.Searches.{IsAt, AreAt, Tries, KeepsEntries, GainsAnswer, Answers, AnswersRest, TriesState, HaveTried, TriesLayer, Explores}
+use Rattle.tn_explore.specs.Query.{Query, AdmitsFor, JournalFor, EndFor, AlikeFor, HasStateFor, HasNextFor, EntryFor, NoLongerFor, kept_for, entry_for}
+use Rattle.tn_explore.specs.SearchStates.{HasAllMoves, IsAdmitted}
+use Rattle.tn_explore.specs.Searches.{IsAt, AreAt, Tries, KeepsEntries, GainsAnswer, Answers, AnswersEnd, TriesState, HaveTried, TriesLayer, Explores}
 use Rattle.tn_explore.proofs.Lists.{map_both, each_mapped, each_right, each_zip, none_is}
 use Rattle.tn_explore.proofs.Tries.{both_ways}
 
 module _ {S : Type 0} (Journal : S → List ℕ) (IsOf : S → Query → Type 0) (a : Query) (depth : ℕ) (s : S) (picks : List ℕ) (old new : List S) where
   -- whichever pick moves was tried
   all_there : (moved : Bool) → IsOf s a → HasAllMoves Journal IsOf s picks → Tries Journal IsOf a depth s picks old new moved → HasNextFor a (map Journal new) (Journal s)
-  all_there moved is_of all t pick h =
+  all_there moved is_of all t admitted pick h =
       All-contains (λ k. IsMovingAfter a.program (Journal s) k → HasStateFor a (map Journal new) (Journal s ++ k ∷ [])) picks pick t.has (all a is_of pick h) h
 
   -- where none moved nothing moves
@@ -32,25 +33,42 @@ module _ {S : Type 0} (Journal : S → List ℕ) (IsOf : S → Query → Type 0)
       go true e = absurd (both_ways (pick_step_after a.program (Journal s) pick).moved e (All-contains (IsIdleAfter a.program (Journal s)) picks pick (t.idle refl) (all a is_of pick e)))
       go false e = e
 
-  pub state_moves : (es : List RestEntry) (moved : Bool) → moved ≡ true → IsOf s a → HasAllMoves Journal IsOf s picks → Tries Journal IsOf a depth s picks old new moved → TriesState Journal IsOf a depth s old new es es
-  state_moves es moved e is_of all t =
+  pub state_moves : (es : List RestEntry) (moved : Bool) → moved ≡ true → AdmitsFor a (Journal s) → IsOf s a → HasAllMoves Journal IsOf s picks → Tries Journal IsOf a depth s picks old new moved → TriesState Journal IsOf a depth s old new es es
+  state_moves es moved e admitted is_of all t =
       let one : (pick : ℕ) × IsMovingAfter a.program (Journal s) pick = t.moves e in
       record {
         more = t.more;
         longer = t.longer;
         at = t.at;
         next = all_there moved is_of all t;
-        answers = inl (record { same = refl; has = λ rests. absurd (both_ways (pick_step_after a.program (Journal s) one.0).moved one.1 (rests one.0)) });
+        answers = inl (record { same = refl; has = λ ends. absurd (no_end one ends) });
       }
+    where
+      no_end : (pick : ℕ) × IsMovingAfter a.program (Journal s) pick → EndFor a (Journal s) → ⊥
+      no_end one (inl rests) = both_ways (pick_step_after a.program (Journal s) one.0).moved one.1 (rests one.0)
+      no_end one (inr out) = both_ways (a.admits (kept_for a (Journal s))) admitted out
 
-  pub state_rests : (es fs : List RestEntry) (moved : Bool) → moved ≡ false → IsOf s a → HasAllMoves Journal IsOf s picks → Tries Journal IsOf a depth s picks old new moved → AnswersRest Journal IsOf s es fs → TriesState Journal IsOf a depth s old new es fs
+  pub state_rests : (es fs : List RestEntry) (moved : Bool) → moved ≡ false → IsOf s a → HasAllMoves Journal IsOf s picks → Tries Journal IsOf a depth s picks old new moved → AnswersEnd Journal IsOf s es fs → TriesState Journal IsOf a depth s old new es fs
   state_rests es fs moved e is_of all t answers = record {
     more = t.more;
     longer = t.longer;
     at = t.at;
     next = all_there moved is_of all t;
-    answers = answers a is_of (none_moves is_of all (subst (Tries Journal IsOf a depth s picks old new) e t));
+    answers = answers a is_of (inl (none_moves is_of all (subst (Tries Journal IsOf a depth s picks old new) e t)));
   }
+
+-- what is not admitted isn't gone on from
+pub state_ends : {S : Type 0} (Journal : S → List ℕ) (IsOf : S → Query → Type 0) (a : Query) (depth : ℕ) (s : S) (old : List S) (es fs : List RestEntry) (admitted : Bool) → admitted ≡ false → IsOf s a → AreAt Journal IsOf a depth old → IsAdmitted Journal IsOf s admitted
+    → AnswersEnd Journal IsOf s es fs → TriesState Journal IsOf a depth s old old es fs
+state_ends Journal IsOf a depth s old es fs admitted out is_of at admits answers =
+    let outside : a.admits (kept_for a (Journal s)) ≡ false = admits a is_of ∙ out in
+    record {
+      more = [];
+      longer = sym (append-nil old);
+      at = at;
+      next = λ inside pick moving. absurd (both_ways (a.admits (kept_for a (Journal s))) inside outside);
+      answers = answers a is_of (inr outside);
+    }
 
 -- ---- one more journal was tried
 
@@ -59,11 +77,11 @@ distinct_more [] x h k = (tt, tt)
 distinct_more (e ∷ es) x h k = (each_both (λ f. e.kept ≡ f.kept → ⊥) es (x ∷ []) h.0 (k.0, tt), distinct_more es x h.1 k.1)
 
 module _ (a : Query) (depth : ℕ) (known more tried : List (List ℕ)) (j : List ℕ) (es fs : List RestEntry) (h : HaveTried a depth known tried es) (from : EachOf (JournalFor a) more) (next : HasNextFor a (known ++ more) j) (here : JournalFor a j) (long : length j ≡ depth) where
-  abbrev Rests : List RestEntry → List ℕ → Type 0
-  Rests gs k = IsRestAfter a.program k → OneOf (EntryFor a k) gs
+  abbrev Ends : List RestEntry → List ℕ → Type 0
+  Ends gs k = EndFor a k → OneOf (EntryFor a k) gs
 
   abbrev Shorter : List RestEntry → List ℕ → Type 0
-  Shorter gs k = IsRestAfter a.program k → EachOf (NoLongerFor a k) gs
+  Shorter gs k = EndFor a k → EachOf (NoLongerFor a k) gs
 
   all_from : EachOf (JournalFor a) (known ++ more)
   all_from = each_both (JournalFor a) known more h.from from
@@ -73,13 +91,13 @@ module _ (a : Query) (depth : ℕ) (known more tried : List (List ℕ)) (j : Lis
 
   all_next : EachOf (HasNextFor a (known ++ more)) (tried ++ j ∷ [])
   all_next = each_both (HasNextFor a (known ++ more)) tried (j ∷ [])
-      (each_also (HasNextFor a known) (HasNextFor a (known ++ more)) tried (λ k g pick moving. one_before (AlikeFor a (k ++ pick ∷ [])) known more (g pick moving)) h.next)
+      (each_also (HasNextFor a known) (HasNextFor a (known ++ more)) tried (λ k g admitted pick moving. one_before (AlikeFor a (k ++ pick ∷ [])) known more (g admitted pick moving)) h.next)
       (next, tt)
 
   -- no entry is longer than the journal
   none_longer : EachOf (NoLongerFor a j) es
   none_longer =
-      let whole : length (moves a.program j) ≡ depth = ap length here.moved ∙ long in
+      let whole : length (moves a.program j) ≡ depth = ap length here.from.moved ∙ long in
       each_also (λ e. length e.journal ≤ depth) (NoLongerFor a j) es (λ e k same. subst (λ n. length e.journal ≤ n) (sym whole) k) h.short
 
   stays : KeepsEntries a j es fs → HaveTried a depth (known ++ more) (tried ++ j ∷ []) fs
@@ -87,8 +105,8 @@ module _ (a : Query) (depth : ℕ) (known more tried : List (List ℕ)) (j : Lis
     from = all_from;
     first = still_first;
     next = all_next;
-    entries = each_both (Rests es) tried (j ∷ []) h.entries (s.has, tt);
-    shortest = each_both (Shorter es) tried (j ∷ []) h.shortest (λ rests. none_longer, tt);
+    entries = each_both (Ends es) tried (j ∷ []) h.entries (s.has, tt);
+    shortest = each_both (Shorter es) tried (j ∷ []) h.shortest (λ ends. none_longer, tt);
     short = h.short;
     sound = h.sound;
     distinct = h.distinct;
@@ -99,16 +117,16 @@ module _ (a : Query) (depth : ℕ) (known more tried : List (List ℕ)) (j : Lis
     from = all_from;
     first = still_first;
     next = all_next;
-    entries = each_both (Rests gs) tried (j ∷ [])
-        (each_also (Rests es) (Rests gs) tried (λ k r rests. one_before (EntryFor a k) es (x ∷ []) (r rests)) h.entries)
-        (λ rests. one_after (EntryFor a j) es (x ∷ []) (inl refl), tt);
+    entries = each_both (Ends gs) tried (j ∷ [])
+        (each_also (Ends es) (Ends gs) tried (λ k r ends. one_before (EntryFor a k) es (x ∷ []) (r ends)) h.entries)
+        (λ ends. one_after (EntryFor a j) es (x ∷ []) (inl refl), tt);
     shortest = each_both (Shorter gs) tried (j ∷ [])
-        (each_zip (Rests es) (Shorter es) (Shorter gs) tried
-        (λ k r l rests. each_both (NoLongerFor a k) es (x ∷ []) (l rests) (λ same. absurd (none_is (EntryFor a j) es g.fresh (subst (λ y. OneOf (λ e. e.kept ≡ y) es) (sym same) (r rests))), tt))
+        (each_zip (Ends es) (Shorter es) (Shorter gs) tried
+        (λ k r l ends. each_both (NoLongerFor a k) es (x ∷ []) (l ends) (λ same. absurd (none_is (EntryFor a j) es g.fresh (subst (λ y. OneOf (λ e. e.kept ≡ y) es) (sym same) (r ends))), tt))
         h.entries h.shortest)
-        (λ rests. each_both (NoLongerFor a j) es (x ∷ []) none_longer (λ same. whole, tt), tt);
+        (λ ends. each_both (NoLongerFor a j) es (x ∷ []) none_longer (λ same. whole, tt), tt);
     short = each_both (λ e. length e.journal ≤ depth) es (x ∷ []) h.short (omega arith, tt);
-    sound = each_both (IsRestEntry a.question a.sessions a.program a.before) es (x ∷ []) h.sound (record { from = here; rests = g.rests; keeps = refl }, tt);
+    sound = each_both (IsEndEntry a.admits a.question a.sessions a.program a.before) es (x ∷ []) h.sound (record { from = here.from; ends = record { followed = here.followed; ends = subst (EndFor a) here.from.goes_on g.ends }; keeps = refl }, tt);
     distinct = distinct_more es x h.distinct g.fresh;
   })
     where
@@ -119,7 +137,7 @@ module _ (a : Query) (depth : ℕ) (known more tried : List (List ℕ)) (j : Lis
       gs = es ++ x ∷ []
 
       whole : length j ≤ length (moves a.program j)
-      whole = let same : length (moves a.program j) ≡ length j = ap length here.moved in omega arith
+      whole = let same : length (moves a.program j) ≡ length j = ap length here.from.moved in omega arith
 
   pub tried_more : Answers a j es fs → HaveTried a depth (known ++ more) (tried ++ j ∷ []) fs
   tried_more (inl s) = stays s
@@ -165,7 +183,7 @@ module _ {S : Type 0} (Journal : S → List ℕ) (IsOf : S → Query → Type 0)
         let done : tried ++ map Journal (take (i + 1) ss) ≡ (tried ++ map Journal (take i ss)) ++ Journal s ∷ [] =
         ap (λ xs. tried ++ map Journal xs) taken ∙ ap (λ js. tried ++ js) (map_both Journal (take i ss) (s ∷ [])) ∙ sym (append_assoc tried (map Journal (take i ss)) (Journal s ∷ [])) in
         let from : EachOf (JournalFor a) more = journals_from (depth + 1) t.more (each_right (IsAt Journal IsOf a (depth + 1)) old t.more (subst (AreAt Journal IsOf a (depth + 1)) t.longer t.at)) in
-        let next : HasNextFor a (known old ++ more) (Journal s) = λ pick moving. subst (λ js. HasStateFor a js (Journal s ++ pick ∷ [])) (sym whole) (one_after (AlikeFor a (Journal s ++ pick ∷ [])) (tried ++ map Journal ss) (map Journal new) (t.next pick moving)) in
+        let next : HasNextFor a (known old ++ more) (Journal s) = λ admitted pick moving. subst (λ js. HasStateFor a js (Journal s ++ pick ∷ [])) (sym whole) (one_after (AlikeFor a (Journal s ++ pick ∷ [])) (tried ++ map Journal ss) (map Journal new) (t.next admitted pick moving)) in
         subst (λ js. HaveTried a depth js (tried ++ map Journal (take (i + 1) ss)) fs) whole
         (subst (λ js. HaveTried a depth (known old ++ more) js fs) (sym done)
         (tried_more a depth (known old) more (tried ++ map Journal (take i ss)) (Journal s) es fs h from next here.from here.long t.answers))
@@ -189,7 +207,7 @@ module _ {S : Type 0} (Journal : S → List ℕ) (IsOf : S → Query → Type 0)
     pub few : layers ≤ 65537
 
   pub first_at : (s : S) → IsOf s a → Journal s ≡ moves a.program a.before → moves a.program (moves a.program a.before) ≡ moves a.program a.before → IsAt Journal IsOf a (length (Journal s)) s
-  first_at s is_of is again = record { is_of = is_of; from = record { more = []; goes_on = is ∙ sym (append-nil (moves a.program a.before)); moved = ap (moves a.program) is ∙ again ∙ sym is }; long = refl }
+  first_at s is_of is again = record { is_of = is_of; from = record { from = record { more = []; goes_on = is ∙ sym (append-nil (moves a.program a.before)); moved = ap (moves a.program) is ∙ again ∙ sym is }; followed = tt }; long = refl }
 
   length_mapped : (ss : List S) → length (map Journal ss) ≡ length ss
   length_mapped [] = refl
@@ -223,7 +241,7 @@ module _ {S : Type 0} (Journal : S → List ℕ) (IsOf : S → Query → Type 0)
   depth_bounded depth [] n e some at = absurd (both_ways (n == 0) (ap (λ k. k == 0) (sym e)) some)
   depth_bounded depth (s ∷ ss) n e some at =
       let spent : length (moves a.program (Journal s)) + (run_state_of a.program (Journal s)).room ≡ 65536 = room_spent a.program.functions (start a.program) (Journal s) in
-      let same : length (moves a.program (Journal s)) ≡ length (Journal s) = ap length at.0.from.moved in
+      let same : length (moves a.program (Journal s)) ≡ length (Journal s) = ap length at.0.from.from.moved in
       let long : length (Journal s) ≡ depth = at.0.long in
       omega arith
 
@@ -260,9 +278,9 @@ module _ {S : Type 0} (Journal : S → List ℕ) (IsOf : S → Query → Type 0)
       record {
         sound = h.sound;
         distinct = h.distinct;
-        complete = λ c. closed_are_complete a.question a.sessions a.program js a.before es h.first h.next h.entries;
-        shortest = λ c. closed_are_shortest a.question a.sessions a.program js a.before es h.first h.next h.shortest;
-        count = record { journals = js; from = h.from; count = b.count ∙ ap (λ ks. min (length ks) 18446744073709551615) empty; all = λ c. closed_have_all a.question a.sessions a.program js a.before h.first h.next };
+        complete = λ c. closed_are_complete a.admits a.question a.sessions a.program js a.before es h.first h.next h.entries;
+        shortest = λ c. closed_are_shortest a.admits a.question a.sessions a.program js a.before es h.first h.next h.shortest;
+        count = record { journals = js; from = h.from; count = b.count ∙ ap (λ ks. min (length ks) 18446744073709551615) empty; all = λ c. closed_have_all a.admits a.question a.sessions a.program js a.before h.first h.next };
         stops = λ c. absurd (both_ways true refl c);
       }
 

@@ -1,7 +1,5 @@
-use Rattle.std.proofs.Common.{◌≡◌, ◌++◌, ◌∷◌, [], ℕ}
+use Rattle.std.proofs.Common.{◌≡◌, ◌++◌, ◌∷◌, []}
 use Rattle.std.proofs.lemmas.Result.{IfOk-weaker}
-use Rattle.tn_explore.specs.Query.{Query}
-use Rattle.tn_explore.specs.Searches.{IsAt, AreAt, AddsState}
 use Rattle.tn_explore.proofs.Layers.{present, absent}
 use Rattle.tn_explore.proofs.layer.Layer.add.Goals as goal
 
