@@ -58,10 +58,10 @@ module _ {S : Type 0} (Journal : S → List ℕ) (IsOf : S → Query → Type 0)
   }
 
 -- what is not admitted isn't gone on from
-pub state_ends : {S : Type 0} (Journal : S → List ℕ) (IsOf : S → Query → Type 0) (a : Query) (depth : ℕ) (s : S) (old : List S) (es fs : List RestEntry) (admitted : Bool) → admitted ≡ false → IsOf s a → AreAt Journal IsOf a depth old → IsAdmitted Journal IsOf s admitted
+pub state_ends : {S F : Type 0} (Journal : S → List ℕ) (IsOf : S → Query → Type 0) (Filters : F → Query → Type 0) (f : F) (a : Query) (depth : ℕ) (s : S) (old : List S) (es fs : List RestEntry) (admitted : Bool) → admitted ≡ false → IsOf s a → Filters f a → AreAt Journal IsOf a depth old → IsAdmitted Journal IsOf Filters f s admitted
     → AnswersEnd Journal IsOf s es fs → TriesState Journal IsOf a depth s old old es fs
-state_ends Journal IsOf a depth s old es fs admitted out is_of at admits answers =
-    let outside : a.admits (kept_for a (Journal s)) ≡ false = admits a is_of ∙ out in
+state_ends Journal IsOf Filters f a depth s old es fs admitted out is_of filters at admits answers =
+    let outside : a.admits (kept_for a (Journal s)) ≡ false = admits a is_of filters ∙ out in
     record {
       more = [];
       longer = sym (append-nil old);

@@ -30,9 +30,9 @@ AreSame Journal IsOf s t result = IsTrue result → (a : Query) → IsOf s a →
 abbrev pub KeepsFor : {S M : Type 0} → (S → List ℕ) → (S → Query → Type 0) → (M → KeptMessages) → S → M → Type 0
 KeepsFor Journal IsOf Seen s m = (a : Query) → IsOf s a → Seen m ≡ kept_for a (Journal s)
 
--- what is kept of the state is admitted, or is not
-abbrev pub IsAdmitted : {S : Type 0} → (S → List ℕ) → (S → Query → Type 0) → S → Bool → Type 0
-IsAdmitted Journal IsOf s result = (a : Query) → IsOf s a → a.admits (kept_for a (Journal s)) ≡ result
+-- what is kept of the state is admitted by the filter, or is not
+abbrev pub IsAdmitted : {S F : Type 0} → (S → List ℕ) → (S → Query → Type 0) → (F → Query → Type 0) → F → S → Bool → Type 0
+IsAdmitted Journal IsOf Filters f s result = (a : Query) → IsOf s a → Filters f a → a.admits (kept_for a (Journal s)) ≡ result
 
 -- two of them are equal where the same is kept, and nowhere else
 abbrev pub EqualsByKept : {M : Type 0} → (M → M → Bool) → (M → KeptMessages) → Type 0

@@ -10,6 +10,7 @@ const HEADS: usize = 65536;
 /// The states after so many moves. The lists by fingerprint only say where to look.
 #[derive(Drop)]
 pub struct Layer<A: Allocator, S> {
+    pub(crate) alloc: A,
     pub(crate) states: Vec<S, A>,
     /// For each list the place of its newest state, from 1; 0 where it has none.
     heads: Vec<usize, A>,
@@ -27,6 +28,7 @@ impl<A: Allocator + Copy, S: SearchState<A>> Layer<A, S> {
         ensures { result.states.items ≡ [] }
     {
         Layer {
+            alloc,
             states: Vec::new(alloc),
             heads: Vec::new(alloc),
             links: Vec::new(alloc),

@@ -62,19 +62,20 @@ fn answer<A: Allocator + Copy, S: SearchState<A>>(
 
 /// Tries all picks after a state. Where none moves, or what is kept is not admitted, it is answered.
 fn try_state<A: Allocator + Copy, S: SearchState<A>>(
-    alloc: A,
     context: &S::Context,
+    filter: &S::Filter,
     state: &S,
     next: &mut Layer<A, S>,
     answers: &mut Answers<A, S::Observation>,
 ) -> Result<(), AllocError>
-    ensures { IfOk result (λ _. (a : Query) (depth : ℕ) →
+    ensures { IfOk result (λ _. (a : Query) (depth : ℕ) → S.filters filter.now a →
         AreAt S.journal (S.is_of context.now) a (depth + 1) next.old.states.items →
         IsAt S.journal (S.is_of context.now) a depth state.now →
         TriesState S.journal (S.is_of context.now) a (depth + 1) state.now next.old.states.items next.new.states.items
         (answer_entries S.kept_seen answers.old.entries) (answer_entries S.kept_seen answers.new.entries)) }
 {
-    if !state.is_admitted(alloc)? {
+    let alloc = next.alloc;
+    if !state.is_admitted(alloc, filter)? {
         return answer(alloc, state, answers);
     }
     let picks = state.picks(alloc)?;
@@ -87,15 +88,15 @@ fn try_state<A: Allocator + Copy, S: SearchState<A>>(
 
 /// Tries each state of a layer, while the next has fewer than so many states: whether all were tried.
 fn try_layer<A: Allocator + Copy, S: SearchState<A>>(
-    alloc: A,
     context: &S::Context,
+    filter: &S::Filter,
     states: &[S],
     next: &mut Layer<A, S>,
     answers: &mut Answers<A, S::Observation>,
     room: usize,
 ) -> Result<bool, AllocError>
     ensures { IfOk result (λ complete. (a : Query) (depth : ℕ) (tried : List (List ℕ)) →
-        next.old.states.items ≡ [] → AreAt S.journal (S.is_of context.now) a depth states.now →
+        S.filters filter.now a → next.old.states.items ≡ [] → AreAt S.journal (S.is_of context.now) a depth states.now →
         HaveTried a depth (tried ++ map S.journal states.now) tried (answer_entries S.kept_seen answers.old.entries) →
         TriesLayer S.journal (S.is_of context.now) a depth tried states.now next.new.states.items
         (answer_entries S.kept_seen answers.new.entries) room complete) }
@@ -104,7 +105,7 @@ fn try_layer<A: Allocator + Copy, S: SearchState<A>>(
         if next.states.len() >= room {
             return Ok(false);
         }
-        try_state(alloc, context, state, next, answers)?;
+        try_state(context, filter, state, next, answers)?;
     }
     Ok(true)
 }
@@ -125,11 +126,12 @@ pub struct Exploration<A: Allocator, M: Eq + Hash> {
 pub fn explore<A: Allocator + Copy, S: SearchState<A>>(
     alloc: A,
     context: &S::Context,
+    filter: &S::Filter,
     first: S,
     max_states: usize,
 ) -> Result<Exploration<A, S::Observation>, AllocError>
     ensures { IfOk result (λ e. (a : Query) →
-        S.is_of context.now first a → S.journal first ≡ moves a.program a.before →
+        S.is_of context.now first a → S.filters filter.now a → S.journal first ≡ moves a.program a.before →
         Explores a (answer_entries S.kept_seen e.answers.entries) max_states e.states e.is_complete) }
 {
     let mut layer = Layer::new(alloc);
@@ -146,7 +148,14 @@ pub fn explore<A: Allocator + Copy, S: SearchState<A>>(
         }
         let mut next = Layer::new(alloc);
         let room = max_states.saturating_sub(states);
-        let is_complete = try_layer(alloc, context, &layer.states, &mut next, &mut answers, room)?;
+        let is_complete = try_layer(
+            context,
+            filter,
+            &layer.states,
+            &mut next,
+            &mut answers,
+            room,
+        )?;
         let met = states.saturating_add(next.states.len());
         if !is_complete {
             return Ok(Exploration {

@@ -2,7 +2,8 @@
 use std::alloc::{AllocError, Allocator};
 use std::hash::Hash;
 
-/// A node with its sessions and what is kept of their messages, and the journal that led there.
+/// A node with its sessions and what is kept of their messages, and the journal that led there. A filter says which runs
+/// are followed.
 pub trait SearchState<A: Allocator>: Sized + Drop {
     ghost use Rattle.std.specs.Prelude.{◌≡◌, ℕ, List, IfOk};
     ghost use Rattle.def_explore.specs.Rests.{KeptMessages};
@@ -13,6 +14,9 @@ pub trait SearchState<A: Allocator>: Sized + Drop {
     /// What all states of a search have in common, as the program of a run.
     type Context;
 
+    /// What says which runs are followed.
+    type Filter;
+
     /// What is kept of its messages.
     type Observation: Eq + Hash + Drop;
 
@@ -22,6 +26,9 @@ pub trait SearchState<A: Allocator>: Sized + Drop {
     /// It is where its journal leads in this program, with what is kept for this question.
     ghost is_of: { Self.Context → Self → Query → Type 0 };
 
+    /// The filter admits what is admitted for this question.
+    ghost filters: { Self.Filter → Query → Type 0 };
+
     /// What the definitions keep.
     ghost kept_seen: { Self.Observation → KeptMessages };
 
@@ -29,9 +36,9 @@ pub trait SearchState<A: Allocator>: Sized + Drop {
     fn picks(&self, alloc: A) -> Result<Vec<u32, A>, AllocError>
         ensures { IfOk result (λ v. (x : Self.Context) → HasAllMoves journal (is_of x) self.now v.items) };
 
-    /// Whether what is kept of its messages is admitted. Where it isn't, the run ends there.
-    fn is_admitted(&self, alloc: A) -> Result<bool, AllocError>
-        ensures { IfOk result (λ b. (x : Self.Context) → IsAdmitted journal (is_of x) self.now b) };
+    /// Whether the filter admits what is kept of its messages. Where it doesn't, the run ends there.
+    fn is_admitted(&self, alloc: A, filter: &Self::Filter) -> Result<bool, AllocError>
+        ensures { IfOk result (λ b. (x : Self.Context) → IsAdmitted journal (is_of x) filters filter.now self.now b) };
 
     /// The same state, which shares what this one has.
     fn share(&self) -> Result<Self, AllocError>

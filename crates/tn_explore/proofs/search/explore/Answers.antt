@@ -8,7 +8,7 @@ use Rattle.tn_explore.proofs.Searches.{Before, first_at, before_all, before_next
 use Rattle.tn_explore.proofs.search.explore.Goals as goal
 
 pub loop-init : goal.loop-init
-loop-init g c = λ a is_of is.
+loop-init g c = λ a is_of filters is.
     let J = g.S.SearchState.journal in
     let I = (g.S.SearchState.is_of c.args.context.now) in
     let first = c.args.first in
@@ -19,41 +19,41 @@ loop-init g c = λ a is_of is.
     subst (λ es. Before J I a 0 c.add.new.self.states.items (answer_entries g.S.SearchState.kept_seen es) c.len-states.result) (sym c.new-answers.ensures.empty) (before_all J I a first c.add.new.self.states.items c.len-states.result is adds.at adds.has counted (omega (arith, c.add.new.self.states.ok.0, c.len-states.ensures)))
 
 pub returns-then-is_empty : goal.returns-then-is_empty
-returns-then-is_empty g c = λ a is_of is.
+returns-then-is_empty g c = λ a is_of filters is.
     let counted : length c.loop.layer.states.items ≡ vec_len c.loop.layer.states = omega (arith, c.loop.layer.states.ok.0) in
     let e : c.loop.layer.states.items ≡ [] = empty_is c.loop.layer.states.items (vec_len c.loop.layer.states) counted (eqb-true (vec_len c.loop.layer.states) 0 (sym c.is_empty.ensures ∙ c.if-is_empty.true)) in
-    explored g.S.SearchState.journal (g.S.SearchState.is_of c.args.context.now) a c.loop.counter c.loop.layer.states.items (answer_entries g.S.SearchState.kept_seen c.loop.answers.entries) c.args.max_states c.loop.states e (c.loop.invariant a is_of is)
+    explored g.S.SearchState.journal (g.S.SearchState.is_of c.args.context.now) a c.loop.counter c.loop.layer.states.items (answer_entries g.S.SearchState.kept_seen c.loop.answers.entries) c.args.max_states c.loop.states e (c.loop.invariant a is_of filters is)
 
 pub returns : goal.returns
-returns g c = λ a is_of is. absurd (no_more_layers g.S.SearchState.journal (g.S.SearchState.is_of c.args.context.now) a c.loop.counter c.loop.layer.states.items (answer_entries g.S.SearchState.kept_seen c.loop.answers.entries) c.loop.states c.loop-test.false (c.loop.invariant a is_of is))
+returns g c = λ a is_of filters is. absurd (no_more_layers g.S.SearchState.journal (g.S.SearchState.is_of c.args.context.now) a c.loop.counter c.loop.layer.states.items (answer_entries g.S.SearchState.kept_seen c.loop.answers.entries) c.loop.states c.loop-test.false (c.loop.invariant a is_of filters is))
 
 pub returns-then-not-is_complete : goal.returns-then-not-is_complete
-returns-then-not-is_complete g c = λ a is_of is.
+returns-then-not-is_complete g c = λ a is_of filters is.
     let J = g.S.SearchState.journal in
     let I = (g.S.SearchState.is_of c.args.context.now) in
-    let b = c.loop.invariant a is_of is in
+    let b = c.loop.invariant a is_of filters is in
     let layer = c.loop.layer.states.items in
     let new = c.try_layer.new.next.states.items in
     let old = answer_entries g.S.SearchState.kept_seen c.loop.answers.entries in
     let es = answer_entries g.S.SearchState.kept_seen c.try_layer.new.answers.entries in
     let room = c.saturating_sub-room.result in
     let done = c.in_ok-is_complete.is_complete in
-    let tried = tried_layer J I a c.loop.counter layer c.deref.result.now new old es c.loop.states room done b c.deref.ensures.value (λ depth tried at have. c.in_ok-is_complete.ensures a depth tried c.new-next.ensures at have) in
+    let tried = tried_layer J I a c.loop.counter layer c.deref.result.now new old es c.loop.states room done b c.deref.ensures.value (λ depth tried at have. c.in_ok-is_complete.ensures a depth tried filters c.new-next.ensures at have) in
     let sum : c.saturating_add-met.result ≡ min (c.loop.states + length new) 18446744073709551615 = omega (arith, c.saturating_add-met.ensures, c.len.ensures, c.try_layer.new.next.states.ok.0) in
     explored_part J I a c.loop.counter layer new old es c.args.max_states c.loop.states room c.saturating_add-met.result done b c.if-not-is_complete.true tried sum c.saturating_sub-room.ensures (omega (arith, c.ranges.max_states.fits))
 
 pub loop-preserved : goal.loop-preserved
-loop-preserved g c = λ a is_of is.
+loop-preserved g c = λ a is_of filters is.
     let J = g.S.SearchState.journal in
     let I = (g.S.SearchState.is_of c.args.context.now) in
-    let b = c.loop.invariant a is_of is in
+    let b = c.loop.invariant a is_of filters is in
     let layer = c.loop.layer.states.items in
     let new = c.try_layer.new.next.states.items in
     let old = answer_entries g.S.SearchState.kept_seen c.loop.answers.entries in
     let es = answer_entries g.S.SearchState.kept_seen c.try_layer.new.answers.entries in
     let room = c.saturating_sub-room.result in
     let done = c.in_ok-is_complete.is_complete in
-    let tried = tried_layer J I a c.loop.counter layer c.deref.result.now new old es c.loop.states room done b c.deref.ensures.value (λ depth tried at have. c.in_ok-is_complete.ensures a depth tried c.new-next.ensures at have) in
+    let tried = tried_layer J I a c.loop.counter layer c.deref.result.now new old es c.loop.states room done b c.deref.ensures.value (λ depth tried at have. c.in_ok-is_complete.ensures a depth tried filters c.new-next.ensures at have) in
     let sum : c.saturating_add-met.result ≡ min (c.loop.states + length new) 18446744073709551615 = omega (arith, c.saturating_add-met.ensures, c.len.ensures, c.try_layer.new.next.states.ok.0) in
     let counted : length layer ≡ vec_len c.loop.layer.states = omega (arith, c.loop.layer.states.ok.0) in
     before_next J I a c.loop.counter layer new old es c.loop.states room c.saturating_add-met.result (vec_len c.loop.layer.states) done b c.if-not-is_complete.false counted (sym c.is_empty.ensures ∙ c.if-is_empty.false) tried sum

@@ -7,7 +7,7 @@ use Rattle.tn_explore.proofs.search.try_layer.Given as goal
 abbrev pub invariant-loop-state : goal.invariant-loop-state
 invariant-loop-state g l =
     (a : Query) (depth : ℕ) (tried : List (List ℕ)) →
-    l.initial.next.states.items ≡ [] → AreAt g.S.SearchState.journal (g.S.SearchState.is_of l.context) a depth l.states →
+    g.S.SearchState.filters l.filter a → l.initial.next.states.items ≡ [] → AreAt g.S.SearchState.journal (g.S.SearchState.is_of l.context) a depth l.states →
     HaveTried a depth (tried ++ map g.S.SearchState.journal l.states) tried (answer_entries g.S.SearchState.kept_seen l.initial.answers.entries) →
     AreAt g.S.SearchState.journal (g.S.SearchState.is_of l.context) a (depth + 1) l.next.states.items
     × HaveTried a depth (known g.S.SearchState.journal (g.S.SearchState.is_of l.context) a depth tried l.states l.next.states.items)
