@@ -1,4 +1,5 @@
 mod Pairs
+mod Beginnings
 mod Matches
 mod Prefixes
 mod Rows

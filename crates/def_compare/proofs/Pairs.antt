@@ -1,11 +1,11 @@
 -- The partners that are computed are some by which the run shows the trace, and there are some where there are any.
-use Rattle.std.proofs.Common.{◌≡◌, ◌==◌, ◌||◌, ℕ, List, Bool, true, false, cond, refl, sym, ◌∙◌, ap, eqb-true, eq-eqb}
-use Rattle.std.specs.Prelude.{Some, None, length}
+use Rattle.std.proofs.Common.{◌≡◌, ◌||◌, ℕ, List, Bool, true, false, cond, refl, sym, ◌∙◌, ap}
+use Rattle.std.specs.Prelude.{Option, Some, None, is_some}
 use Rattle.def_term.specs.Tree.{Tree}
 use Rattle.def_explore.specs.Rests.{KeptMessages}
-use Rattle.def_renaming.specs.Renaming.{IsOneToOne, HaveRenamedBeginnings}
+use Rattle.def_renaming.specs.Renaming.{IsOneToOne, HaveRenamedBeginnings, first_renaming}
 use Rattle.def_renaming.proofs.Search.{found_is_sound, renaming_is_found}
-use Rattle.def_compare.specs.Traces.{TraceQuestion, IsPrefixBy, IsShownBy, orders_in, lists_in, count_in, prefix_pairs, is_as_long}
+use Rattle.def_compare.specs.Traces.{TraceQuestion, IsPrefixBy, IsShownBy, BeginsTraceBy, orders_in, lists_in, lists_with_messages, prefix_pairs, begins_trace, has_no_more}
 use Rattle.def_compare.specs.Laws.{ComputedPairsShow, ShownHasPairs}
 
 -- ---- of a prefix
@@ -25,30 +25,46 @@ prefix_has_pairs ms kept ps h none =
 
 -- ---- of a trace
 
--- where the run may not go on, as many messages are kept as the trace has
-as_many : (a : TraceQuestion) (kept : KeptMessages) → is_as_long a kept ≡ true → a.goes_on ≡ false → count_in kept ≡ length a.messages
-as_many a kept h e = eqb-true (count_in kept) (length a.messages) (go a.goes_on e h)
+-- what is kept begins the trace by pairs where it does
+pub begins_by : (ms : List Tree) (kept : KeptMessages) → begins_trace ms kept ≡ true → (rs : List (ℕ × ℕ)) × BeginsTraceBy rs ms kept
+begins_by ms kept h = go (first_renaming (lists_with_messages kept) (orders_in kept ms)) refl h
   where
-    go : (b : Bool) → b ≡ false → (b || count_in kept == length a.messages) ≡ true → (count_in kept == length a.messages) ≡ true
+    go : (o : Option (List (ℕ × ℕ))) → first_renaming (lists_with_messages kept) (orders_in kept ms) ≡ o → is_some o ≡ true → (rs : List (ℕ × ℕ)) × BeginsTraceBy rs ms kept
+    go (Some rs) is e = let both = found_is_sound (lists_with_messages kept) (orders_in kept ms) rs is in (rs, record { one = both.0; first = both.1 })
+    go None is e = absurd (no e)
+      where
+        no : false ≡ true → ⊥
+        no e = cc
+
+pub begins_if : (ms : List Tree) (kept : KeptMessages) (rs : List (ℕ × ℕ)) → BeginsTraceBy rs ms kept → begins_trace ms kept ≡ true
+begins_if ms kept rs h =
+    let found : (qs : List (ℕ × ℕ)) × (first_renaming (lists_with_messages kept) (orders_in kept ms) ≡ Some qs) = renaming_is_found (lists_with_messages kept) (orders_in kept ms) rs h.one h.first in
+    ap is_some found.1
+
+-- where the run may not go on, what is kept begins the trace
+begun : (a : TraceQuestion) (kept : KeptMessages) → has_no_more a kept ≡ true → a.goes_on ≡ false → (rs : List (ℕ × ℕ)) × BeginsTraceBy rs a.messages kept
+begun a kept h e = begins_by a.messages kept (go a.goes_on e h)
+  where
+    go : (b : Bool) → b ≡ false → (b || begins_trace a.messages kept) ≡ true → begins_trace a.messages kept ≡ true
     go false e h = h
     go true e h = absurd (no e)
       where
         no : true ≡ false → ⊥
         no e = cc
 
-is_long : (a : TraceQuestion) (kept : KeptMessages) → (a.goes_on ≡ false → count_in kept ≡ length a.messages) → is_as_long a kept ≡ true
-is_long a kept h = go a.goes_on refl
+no_more : (a : TraceQuestion) (kept : KeptMessages) → (a.goes_on ≡ false → (rs : List (ℕ × ℕ)) × BeginsTraceBy rs a.messages kept) → has_no_more a kept ≡ true
+no_more a kept h = go a.goes_on refl
   where
-    go : (b : Bool) → a.goes_on ≡ b → (b || count_in kept == length a.messages) ≡ true
+    go : (b : Bool) → a.goes_on ≡ b → (b || begins_trace a.messages kept) ≡ true
     go true e = refl
-    go false e = eq-eqb (count_in kept) (length a.messages) (h e)
+    go false e = let by = h e in begins_if a.messages kept by.0 by.1
 
 pub computed_pairs_show : ComputedPairsShow
-computed_pairs_show a kept ps h = go (is_as_long a kept) refl h
+computed_pairs_show a kept ps h = go (has_no_more a kept) refl h
   where
-    go : (b : Bool) → is_as_long a kept ≡ b → cond b (prefix_pairs a.messages kept) None ≡ Some ps → IsShownBy ps a kept
-    go true e g = record { prefix = pairs_are_of_prefix a.messages kept ps g; all = as_many a kept e }
+    go : (b : Bool) → has_no_more a kept ≡ b → cond b (prefix_pairs a.messages kept) None ≡ Some ps → IsShownBy ps a kept
+    go true e g = record { prefix = pairs_are_of_prefix a.messages kept ps g; all = begun a kept e }
     go false e g = absurd (none_is ps g)
 
 pub shown_has_pairs : ShownHasPairs
-shown_has_pairs a kept ps shown none = prefix_has_pairs a.messages kept ps shown.prefix (ap (λ b. cond b (prefix_pairs a.messages kept) None) (sym (is_long a kept shown.all)) ∙ none)
+shown_has_pairs a kept ps shown none = prefix_has_pairs a.messages kept ps shown.prefix (ap (λ b. cond b (prefix_pairs a.messages kept) None) (sym (no_more a kept shown.all)) ∙ none)

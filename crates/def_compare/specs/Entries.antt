@@ -4,23 +4,25 @@ use Rattle.std.specs.Prelude.{ℕ, zero, suc, List, [], ◌∷◌, ◌++◌, Opt
 use Rattle.def_term.specs.Tree.{Tree}
 use Rattle.def_term.specs.Names.{Name}
 use Rattle.def_script.specs.Program.{Program}
-use Rattle.def_explore.specs.Rests.{IsRestAfter, RunQuestion, KeptMessages, kept_in}
+use Rattle.def_run.specs.Run.{moves}
+use Rattle.def_explore.specs.Rests.{RunQuestion, KeptMessages, kept_in}
 use Rattle.def_explore.specs.Answers.{RestEntry, IsJournalFrom}
-use Rattle.def_compare.specs.Traces.{TraceQuestion, IsPrefixBy, IsShownBy, prefix_pairs, shown_pairs}
+use Rattle.def_explore.specs.Followed.{IsRunToEnd}
+use Rattle.def_compare.specs.Traces.{TraceQuestion, IsPrefixBy, IsShownBy, begins_trace, prefix_pairs, shown_pairs}
 
--- a run to rest that goes on from these picks and shows the trace, with the partners of its pids
+-- a run that goes on from these picks, is followed as long as what is kept begins the trace, and shows the trace, with the partners of its pids
 pub record IsPossibleBy (q : RunQuestion) (a : TraceQuestion) (ss : List Name) (p : Program) (before journal : List ℕ) (ps : List (ℕ × ℕ)) : Type 0 where
   pub from : IsJournalFrom p before journal
-  pub rests : IsRestAfter p journal
+  pub ends : IsRunToEnd (begins_trace a.messages) q ss p (moves p before) from.more
   pub shows : IsShownBy ps a (kept_in q ss p journal)
 
--- no run to rest shows it, whichever partners its pids have
+-- no such run shows it, whichever partners its pids have
 abbrev pub IsImpossible : RunQuestion → TraceQuestion → List Name → Program → List ℕ → Type 0
-IsImpossible q a ss p before = (more : List ℕ) (ps : List (ℕ × ℕ)) → IsRestAfter p (before ++ more) → IsShownBy ps a (kept_in q ss p (before ++ more)) → ⊥
+IsImpossible q a ss p before = (more : List ℕ) (ps : List (ℕ × ℕ)) → IsRunToEnd (begins_trace a.messages) q ss p before more → IsShownBy ps a (kept_in q ss p (before ++ more)) → ⊥
 
--- none begins with these messages
-abbrev pub NoneBeginsWith : RunQuestion → List Tree → List Name → Program → List ℕ → Type 0
-NoneBeginsWith q ms ss p before = (more : List ℕ) (ps : List (ℕ × ℕ)) → IsRestAfter p (before ++ more) → IsPrefixBy ps ms (kept_in q ss p (before ++ more)) → ⊥
+-- none begins with so many of the messages
+abbrev pub NoneBeginsWith : RunQuestion → List Tree → ℕ → List Name → Program → List ℕ → Type 0
+NoneBeginsWith q ms n ss p before = (more : List ℕ) (ps : List (ℕ × ℕ)) → IsRunToEnd (begins_trace ms) q ss p before more → IsPrefixBy ps (take n ms) (kept_in q ss p (before ++ more)) → ⊥
 
 -- ---- by entries
 

@@ -1,6 +1,6 @@
 -- Whether what is kept of a run begins with the messages of a trace (own).
 -- Depends on what is kept of a run, and on terms that are the same but for their pids. A process sends its trace messages to the tracer in their order; of those of two processes none is promised ("Processes", "Delivery of Signals").
-use Rattle.std.specs.Prelude.{◌≡◌, ◌==◌, ◌||◌, ℕ, Bool, false, if◌then◌else◌, List, [], ◌∷◌, ◌++◌, Option, Some, None, length, map, filter, flat_map}
+use Rattle.std.specs.Prelude.{◌≡◌, ◌==◌, ◌||◌, ℕ, Bool, true, false, if◌then◌else◌, List, [], ◌∷◌, ◌++◌, Option, Some, None, is_some, length, map, filter, flat_map}
 use Rattle.std.specs.List.{fold, list_any}
 use Rattle.def_term.specs.Tree.{Tree}
 use Rattle.def_explore.specs.Rests.{KeptMessages, kept_messages, kept_by_process, message_process, is_of_process}
@@ -36,6 +36,15 @@ lists_in (kept_by_process psss) = flat_map (λ pss. pss) psss
 abbrev pub count_in : KeptMessages → ℕ
 count_in kept = length (flat_map (λ ms. ms) (lists_in kept))
 
+-- a list has a message
+abbrev pub has_message : List Tree → Bool
+has_message [] = false
+has_message (m ∷ ms) = true
+
+-- those of the lists that have one
+abbrev pub lists_with_messages : KeptMessages → List (List Tree)
+lists_with_messages kept = filter has_message (lists_in kept)
+
 -- ---- a prefix
 
 -- with each pid's partner in its place, one to one, the messages are the first that are kept, in their orders
@@ -43,19 +52,28 @@ pub record IsPrefixBy (ps : List (ℕ × ℕ)) (ms : List Tree) (kept : KeptMess
   pub one : IsOneToOne ps
   pub first : HaveRenamedBeginnings ps (orders_in kept ms) (lists_in kept)
 
--- and no others are kept, unless the run may go on
+-- the other way round: with each pid's partner in its place, one to one, the messages that are kept are the first of the trace, in their orders
+pub record BeginsTraceBy (ps : List (ℕ × ℕ)) (ms : List Tree) (kept : KeptMessages) : Type 0 where
+  pub one : IsOneToOne ps
+  pub first : HaveRenamedBeginnings ps (lists_with_messages kept) (orders_in kept ms)
+
+-- the trace is a prefix of what is kept, which begins the trace too, unless the run may go on
 pub record IsShownBy (ps : List (ℕ × ℕ)) (a : TraceQuestion) (kept : KeptMessages) : Type 0 where
   pub prefix : IsPrefixBy ps a.messages kept
-  pub all : a.goes_on ≡ false → count_in kept ≡ length a.messages
+  pub all : a.goes_on ≡ false → (rs : List (ℕ × ℕ)) × BeginsTraceBy rs a.messages kept
 
 -- the partners by which messages are the first that are kept
 abbrev pub prefix_pairs : List Tree → KeptMessages → Option (List (ℕ × ℕ))
 prefix_pairs ms kept = first_renaming (orders_in kept ms) (lists_in kept)
 
--- no others are kept, or the run may go on
-abbrev pub is_as_long : TraceQuestion → KeptMessages → Bool
-is_as_long a kept = a.goes_on || count_in kept == length a.messages
+-- what is kept begins the trace
+abbrev pub begins_trace : List Tree → KeptMessages → Bool
+begins_trace ms kept = is_some (first_renaming (lists_with_messages kept) (orders_in kept ms))
+
+-- it does, or the run may go on
+abbrev pub has_no_more : TraceQuestion → KeptMessages → Bool
+has_no_more a kept = a.goes_on || begins_trace a.messages kept
 
 -- those by which the run shows the trace
 abbrev pub shown_pairs : TraceQuestion → KeptMessages → Option (List (ℕ × ℕ))
-shown_pairs a kept = if is_as_long a kept then prefix_pairs a.messages kept else None
+shown_pairs a kept = if has_no_more a kept then prefix_pairs a.messages kept else None
