@@ -1,6 +1,8 @@
 -- What a trace and an entry that shows it stand for.
 -- Depends on comparisons.
-use Rattle.std.specs.Prelude.{◌≡◌, List, map, length}
+use Rattle.std.specs.Prelude.{◌≡◌, Bool, List, map}
+use Rattle.def_explore.specs.Rests.{KeptMessages}
+use Rattle.def_compare.specs.Traces.{begins_trace}
 use Rattle.def_compare.specs.Traces as traces
 use Rattle.def_compare.specs.Entries.{Match, Prefix}
 use Rattle.tn_messages.specs.MessageViews.{kept_seen}
@@ -15,6 +17,10 @@ use Rattle.tn_comparison.specs.declared.matches.TracePrefix.{TracePrefix}
 abbrev pub trace_question_seen : {P : Type 0} → TraceQuestion P → traces.TraceQuestion
 trace_question_seen q = record { messages = map tree_of q.messages.items; goes_on = q.goes_on }
 
+-- what is kept begins the trace that is asked about
+abbrev pub admitted_by : {P : Type 0} → TraceQuestion P → KeptMessages → Bool
+admitted_by q = begins_trace (trace_question_seen q).messages
+
 abbrev pub match_seen : {A : Type 0} → TraceMatch A → Match
 match_seen m = record { entry = record { kept = kept_seen m.kept.now; journal = m.journal.now }; pairs = pairs_seen m.pairs }
 
@@ -24,5 +30,4 @@ prefix_seen f = record { count = f.count; by = match_seen f.by }
 -- a run must show this trace
 pub record IsDemand {P A : Type 0} (a : traces.TraceQuestion) (d : Demand P A) : Type 0 where
   pub orders : AreTraceOrders a.messages d.orders
-  pub count : d.count ≡ length a.messages
   pub goes_on : d.goes_on ≡ a.goes_on

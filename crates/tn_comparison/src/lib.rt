@@ -1,4 +1,4 @@
-//! Which run to rest shows a trace, and which shows its longest prefix.
+//! Which run shows a trace, which shows its longest prefix, and which runs are followed.
 //!
 //! Depends on tn_renaming (partners of pids), tn_messages (what a search keeps) and tn_explore (its entries). Promises
 //! that `possible_by` gives the first of the entries that shows the trace, and `longest_prefix` the first that begins
@@ -6,6 +6,7 @@
 //! the place of a message.
 #![tactic(auto)]
 
+mod filter;
 mod lists;
 mod matches;
 mod orders;

@@ -1,6 +1,6 @@
 // What is kept of a run's messages, as lists that are in an order.
-ghost use Rattle.std.specs.Prelude.{◌≡◌, ◌++◌, IfOk, flat_map, map};
-ghost use Rattle.def_compare.specs.Traces.{lists_in};
+ghost use Rattle.std.specs.Prelude.{◌≡◌, ◌++◌, ◌∷◌, [], IfOk, OnOk, filter, flat_map, map};
+ghost use Rattle.def_compare.specs.Traces.{has_message, lists_in, lists_with_messages};
 ghost use Rattle.def_explore.specs.Rests.{kept_by_process, kept_messages};
 ghost use Rattle.tn_messages.specs.MessageViews.{kept_seen, lists_seen, message_tree, trees_seen};
 ghost use Rattle.tn_renaming.specs.Pairs.{lent_terms_seen};
@@ -93,6 +93,35 @@ pub(crate) fn lists_in<'m, A: Allocator + Copy>(
         KeptListings::Total(listings) => total_lists(alloc, listings),
         KeptListings::ByProcess(sessions) => process_lists(alloc, sessions),
     }
+}
+
+/// Adds a list that has a message.
+fn add_with_message<'m, A: Allocator>(
+    list: TermList<'m, A, A>,
+    lists: &mut Vec<TermList<'m, A, A>, A>,
+) -> Result<(), AllocError>
+    ensures { OnOk result (map lent_terms_seen lists.new.items ≡
+        map lent_terms_seen lists.old.items ++ filter has_message (lent_terms_seen list.entry ∷ [])) }
+{
+    if list.is_empty() {
+        return Ok(());
+    }
+    lists.push(list)?;
+    Ok(())
+}
+
+/// What is kept, as lists that are in an order and have a message.
+pub(crate) fn lists_with_messages<'m, A: Allocator + Copy>(
+    alloc: A,
+    kept: &'m KeptListings<A>,
+) -> Result<Vec<TermList<'m, A, A>, A>, AllocError>
+    ensures { IfOk result (λ v. map lent_terms_seen v.items ≡ lists_with_messages (kept_seen kept.now)) }
+{
+    let mut lists = Vec::new(alloc);
+    for list in lists_in(alloc, kept)? {
+        add_with_message(list, &mut lists)?;
+    }
+    Ok(lists)
 }
 
 /// All that is in some lists.

@@ -1,10 +1,12 @@
 // The entries that show a trace, or a prefix of it.
-ghost use Rattle.std.specs.Prelude.{◌≡◌, ◌≤◌, IfOk, None, Some, length, map, slice_get};
+ghost use Rattle.std.specs.Prelude.{◌≡◌, ◌≤◌, IfOk, List, None, Some, length, map, slice_get};
 ghost use Rattle.std.specs.Option.{option_map};
 ghost use Rattle.def_compare.specs.Entries.{first_match, longest_prefix, match_or, possible_by};
 ghost use Rattle.def_compare.specs.Entries.{prefix_match, prefix_or};
 ghost use Rattle.def_compare.specs.Traces as traces;
-ghost use Rattle.def_compare.specs.Traces.{shown_pairs};
+ghost use Rattle.def_compare.specs.Traces.{begins_trace, shown_pairs};
+ghost use Rattle.def_term.specs.Tree.{Tree};
+ghost use Rattle.tn_comparison.specs.Orders.{AreTraceOrders};
 ghost use Rattle.def_explore.specs.Answers.{RestEntry};
 ghost use Rattle.tn_comparison.specs.Matches.{IsDemand, match_seen, prefix_seen, trace_question_seen};
 ghost use Rattle.tn_explore.specs.Searches.{answer_entries};
@@ -12,7 +14,7 @@ ghost use Rattle.tn_messages.specs.MessageViews.{kept_seen};
 ghost use Rattle.tn_renaming.specs.Pairs.{pairs_seen};
 ghost use Rattle.tn_term.specs.Views.{tree_of};
 
-use crate::lists::{all_in, lists_in};
+use crate::lists::{lists_in, lists_with_messages};
 use crate::orders::TraceOrders;
 use crate::trace_question::TraceQuestion;
 use std::alloc::{AllocError, Allocator};
@@ -39,12 +41,24 @@ pub struct TracePrefix<'e, A: Allocator> {
     pub by: TraceMatch<'e, A>,
 }
 
-/// What a run must show: messages that are its first ones, in their orders, and whether it may have more.
+/// What a run must show: messages that are its first ones, in their orders, and whether it may have more of them.
 #[derive(Drop)]
 struct Demand<'m, P: Allocator, A: Allocator> {
     orders: TraceOrders<'m, P, A>,
-    count: usize,
     goes_on: bool,
+}
+
+/// Whether what is kept begins a trace, of which these messages are in an order.
+pub(crate) fn begins_trace<P: Allocator, A: Allocator + Copy>(
+    alloc: A,
+    orders: &TraceOrders<'_, P, A>,
+    kept: &KeptListings<A>,
+) -> Result<bool, AllocError>
+    ensures { IfOk result (λ b. (ms : List Tree) → AreTraceOrders ms orders.now → begins_trace ms (kept_seen kept.now) ≡ b) }
+{
+    let lists = lists_with_messages(alloc, kept)?;
+    let found = first_renaming(alloc, &lists, orders.like(kept))?;
+    Ok(found.is_some())
 }
 
 /// The partners by which a run shows what it must.
@@ -56,13 +70,12 @@ fn pairs_of<P: Allocator, A: Allocator + Copy>(
     ensures { IfOk result (λ o. (a : traces.TraceQuestion) → IsDemand a demand.now →
         option_map pairs_seen o ≡ shown_pairs a (kept_seen kept.now)) }
 {
-    let lists = lists_in(alloc, kept)?;
-    let all = all_in(alloc, &lists)?;
-    if demand.goes_on || all.len() == demand.count {
-        first_renaming(alloc, demand.orders.like(kept), &lists)
-    } else {
-        Ok(None)
+    if !demand.goes_on && !begins_trace(alloc, &demand.orders, kept)? {
+        return Ok(None);
     }
+    let lists = lists_in(alloc, kept)?;
+    let found = first_renaming(alloc, demand.orders.like(kept), &lists)?;
+    Ok(found)
 }
 
 /// The entry at a place, where its run shows what it must.
@@ -122,7 +135,6 @@ fn first_with<'e, P: Allocator, A: Allocator + Copy>(
     let orders = TraceOrders::of(alloc, messages)?;
     let demand = Demand {
         orders,
-        count: messages.len(),
         goes_on,
     };
     let found = first_match(alloc, &demand, answers)?;

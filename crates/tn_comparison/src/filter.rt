@@ -1,0 +1,22 @@
+// Which runs are followed: those whose messages begin a trace.
+use crate::matches::begins_trace;
+use crate::orders::TraceOrders;
+use crate::trace_question::TraceQuestion;
+use std::alloc::{AllocError, Allocator};
+use tn_messages::{KeptFilter, KeptListings};
+
+impl<P: Allocator, A: Allocator + Copy> KeptFilter<A> for TraceQuestion<P> {
+    ghost use Rattle.tn_comparison.specs.Matches.{admitted_by};
+
+    ghost admits = { admitted_by };
+
+    fn is_open(&self) -> bool {
+        false
+    }
+
+    fn is_admitted(&self, alloc: A, kept: &KeptListings<A>) -> Result<bool, AllocError> {
+        let orders = TraceOrders::of(alloc, &self.messages)?;
+        let begins = begins_trace(alloc, &orders, kept)?;
+        Ok(begins)
+    }
+}
