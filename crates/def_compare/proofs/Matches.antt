@@ -10,7 +10,8 @@ use Rattle.def_explore.specs.Alike.{IsStateAlike}
 use Rattle.def_explore.specs.Answers.{RestEntry, IsEntryFor}
 use Rattle.def_explore.specs.Followed.{IsFollowed, IsEndAfter, IsRunToEnd, IsEndEntry, AreSoundWithin, AreCompleteWithin}
 use Rattle.def_explore.specs.Lists.{OneOf, EachOf}
-use Rattle.def_explore.proofs.Alike.{goes_on, moves_alike, idle_alike}
+use Rattle.def_explore.proofs.Alike.{goes_on, moves_alike}
+use Rattle.def_explore.proofs.FollowedRuns.{run_alike}
 use Rattle.def_compare.specs.Traces.{TraceQuestion, IsShownBy, begins_trace, prefix_pairs, shown_pairs}
 use Rattle.def_compare.specs.Entries.{Match, match_or, first_match}
 use Rattle.def_compare.specs.Laws.{MatchIsPossible, NoMatchIsImpossible, PossibleIsNotImpossible, PossibleRests, ImpossibleHasNoRun, NoRunHasMore}
@@ -73,27 +74,13 @@ pub no_match_is_impossible : NoMatchIsImpossible
 no_match_is_impossible q a ss p before es complete none more ps run shown =
     shown_has_pairs a (kept_in q ss p (before ++ more)) ps shown (none_in_runs (begins_trace a.messages) q ss p before (shown_pairs a) es complete none more run)
 
-module _ (admits : KeptMessages → Bool) (q : RunQuestion) (ss : List Name) (p : Program) where
-  -- a run that is followed is so after other picks that lead to the same state
-  followed_alike : (more a b : List ℕ) → IsStateAlike q ss p a b → IsFollowed admits q ss p b more → IsFollowed admits q ss p a more
-  followed_alike [] a b alike h = tt
-  followed_alike (pick ∷ more) a b alike h = (ap admits alike.kept ∙ h.0, followed_alike more (a ++ pick ∷ []) (b ++ pick ∷ []) (goes_on q ss p a b (pick ∷ []) alike) h.1)
-
-  end_alike : (a b : List ℕ) → IsStateAlike q ss p a b → IsEndAfter admits q ss p b → IsEndAfter admits q ss p a
-  end_alike a b alike (inl rests) = inl (λ pick. idle_alike q ss p a b pick alike (rests pick))
-  end_alike a b alike (inr out) = inr (ap admits alike.kept ∙ out)
-
 pub possible_is_not_impossible : PossibleIsNotImpossible
 possible_is_not_impossible q a ss p before j ps h none =
     let admits : KeptMessages → Bool = begins_trace a.messages in
     let first : IsStateAlike q ss p before (moves p before) = moves_alike q ss p before in
     let alike : IsStateAlike q ss p (before ++ h.from.more) (moves p before ++ h.from.more) = goes_on q ss p before (moves p before) h.from.more first in
     let there : IsStateAlike q ss p (before ++ h.from.more) j = subst (IsStateAlike q ss p (before ++ h.from.more)) (sym h.from.goes_on) alike in
-    let run : IsRunToEnd admits q ss p before h.from.more = record {
-      followed = followed_alike admits q ss p h.from.more before (moves p before) first h.ends.followed;
-      ends = end_alike admits q ss p (before ++ h.from.more) (moves p before ++ h.from.more) alike h.ends.ends;
-    } in
-    none h.from.more ps run (subst (IsShownBy ps a) (sym there.kept) h.shows)
+    none h.from.more ps (run_alike admits q ss p h.from.more before (moves p before) first h.ends) (subst (IsShownBy ps a) (sym there.kept) h.shows)
 
 -- ---- a run that may not go on
 

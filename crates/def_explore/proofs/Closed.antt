@@ -1,5 +1,5 @@
 -- Journals that are closed have all states of runs that are followed, and their entries are complete.
-use Rattle.std.proofs.Common.{◌≡◌, ◌≤◌, ◌⊎◌, inl, inr, ℕ, List, [], ◌∷◌, ◌++◌, length, Bool, true, false, refl, sym, ap, ◌∙◌, append_assoc, append-nil, subst}
+use Rattle.std.proofs.Common.{◌≡◌, ◌≤◌, ℕ, List, [], ◌∷◌, ◌++◌, length, Bool, true, false, refl, sym, ap, ◌∙◌, append_assoc, append-nil, subst}
 use Rattle.def_term.specs.Names.{Name}
 use Rattle.def_script.specs.Program.{Program}
 use Rattle.def_run.specs.Run.{pick_step_after, moves}
@@ -10,6 +10,7 @@ use Rattle.def_explore.specs.Followed.{IsFollowed, IsEndAfter, HasNextWithin, Is
 use Rattle.def_explore.specs.Lists.{OneOf, EachOf}
 use Rattle.def_explore.specs.Laws.{ClosedJournalsHaveAll, RestsHaveEntries, ClosedJournalsAreComplete, ClosedJournalsAreShortest}
 use Rattle.def_explore.proofs.Lists.{one_also, one_both, each_also}
+use Rattle.def_explore.proofs.FollowedRuns.{end_alike}
 use Rattle.def_explore.proofs.Alike.{alike_then, alike_back, goes_on, still, idle_alike, moved_alike}
 
 module _ (q : RunQuestion) (ss : List Name) (p : Program) (js : List (List ℕ)) where
@@ -49,11 +50,6 @@ rest_has_entry q ss p js picks es state rests entries =
     one_also (IsEntryFor q ss p j) (IsEntryFor q ss p picks) es (λ e h. h ∙ back.kept) (there.1 (λ pick. idle_alike q ss p j picks pick back (rests pick)))
 
 module _ (admits : KeptMessages → Bool) (q : RunQuestion) (ss : List Name) (p : Program) where
-  -- a run ends with picks where it does with others that lead to the same state
-  end_alike : (j picks : List ℕ) → IsStateAlike q ss p j picks → IsEndAfter admits q ss p picks → IsEndAfter admits q ss p j
-  end_alike j picks alike (inl rests) = inl (λ pick. idle_alike q ss p j picks pick alike (rests pick))
-  end_alike j picks alike (inr out) = inr (ap admits alike.kept ∙ out)
-
   abbrev EndHasEntry : List RestEntry → List ℕ → Type 0
   EndHasEntry es j = IsEndAfter admits q ss p j → OneOf (IsEntryFor q ss p j) es
 
@@ -65,7 +61,7 @@ module _ (admits : KeptMessages → Bool) (q : RunQuestion) (ss : List Name) (p 
       let there : (j : List ℕ) × EndHasEntry es j × IsStateAlike q ss p picks j = one_both (EndHasEntry es) (IsStateAlike q ss p picks) js entries state in
       let j : List ℕ = there.0 in
       let back : IsStateAlike q ss p j picks = alike_back q ss p picks j there.2 in
-      one_also (IsEntryFor q ss p j) (IsEntryFor q ss p picks) es (λ e h. h ∙ back.kept) (there.1 (end_alike j picks back ends))
+      one_also (IsEntryFor q ss p j) (IsEntryFor q ss p picks) es (λ e h. h ∙ back.kept) (there.1 (end_alike admits q ss p j picks back ends))
 
   end_is_no_shorter : (js : List (List ℕ)) (picks : List ℕ) (es : List RestEntry) → HasStateOf q ss p js picks → IsEndAfter admits q ss p picks → EachOf (EndIsNoShorter es) js → EachOf (IsNoLonger q ss p picks) es
   end_is_no_shorter js picks es state ends shortest =
@@ -75,7 +71,7 @@ module _ (admits : KeptMessages → Bool) (q : RunQuestion) (ss : List Name) (p 
       let counted : length (moves p j) ≡ length (moves p picks) = moved_alike q ss p j picks back in
       each_also (IsNoLonger q ss p j) (IsNoLonger q ss p picks) es
       (λ e h same. subst (λ n. length e.journal ≤ n) counted (h (same ∙ sym back.kept)))
-      (there.1 (end_alike j picks back ends))
+      (there.1 (end_alike admits q ss p j picks back ends))
 
 pub closed_are_complete : ClosedJournalsAreComplete
 closed_are_complete admits q ss p js before es there closed entries more run =

@@ -99,8 +99,9 @@ HaveTheSame es fs = EachOf (λ e. OneOf (λ f. (f.kept ≡ e.kept) × (length f.
 -- entries that are sound and shortest are among all that are so and complete
 abbrev pub EntriesAreDetermined : Type 0
 EntriesAreDetermined =
-    (q : RunQuestion) (ss : List Name) (p : Program) (before : List ℕ) (es fs : List RestEntry) →
-    AreSound q ss p before es → AreShortest q ss p before es → AreSound q ss p before fs → AreShortest q ss p before fs → AreComplete q ss p before fs →
+    (admits : KeptMessages → Bool) (q : RunQuestion) (ss : List Name) (p : Program) (before : List ℕ) (es fs : List RestEntry) →
+    AreSoundWithin admits q ss p before es → AreShortestWithin admits q ss p before es →
+    AreSoundWithin admits q ss p before fs → AreShortestWithin admits q ss p before fs → AreCompleteWithin admits q ss p before fs →
     HaveTheSame es fs
 
 -- ---- words

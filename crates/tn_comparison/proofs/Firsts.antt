@@ -23,6 +23,9 @@ match_is a x e picks ps same journal is =
     ∙ ap (λ o. match_or x o None) (sym is)
     ∙ ap (λ (y : RestEntry). match_or y (shown_pairs a y.kept) None) same
 
+pub no_match_is : (a : TraceQuestion) (x e : RestEntry) → x ≡ e → shown_pairs a x.kept ≡ None → None ≡ match_or e (shown_pairs a e.kept) None
+no_match_is a x e same is = ap (λ o. match_or x o None) (sym is) ∙ ap (λ (y : RestEntry). match_or y (shown_pairs a y.kept) None) same
+
 -- ---- the first
 
 one_later : (i : ℕ) → suc (i + 1) ≡ suc i + 1

@@ -1,6 +1,6 @@
 -- What a trace and an entry that shows it stand for.
 -- Depends on comparisons.
-use Rattle.std.specs.Prelude.{◌≡◌, Bool, List, map}
+use Rattle.std.specs.Prelude.{◌≡◌, Bool, map}
 use Rattle.def_explore.specs.Rests.{KeptMessages}
 use Rattle.def_compare.specs.Traces.{begins_trace}
 use Rattle.def_compare.specs.Traces as traces

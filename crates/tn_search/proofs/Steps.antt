@@ -32,12 +32,12 @@ use Rattle.tn_trace.specs.declared.run.PickOutcome.TheVariants.{Moved, Idle, Ful
 use Rattle.tn_trace.specs.declared.run.Run.{Run}
 use Rattle.tn_trace.proofs.Moves.{moves_more}
 use Rattle.tn_explore.specs.Query.{Query, AlikeFor, kept_for}
-use Rattle.tn_explore.specs.SearchStates.{StepGives}
+use Rattle.tn_explore.specs.SearchStates.{StepGives, IsAdmitted}
 use Rattle.tn_messages.specs.MessageViews.{question_of, kept_lists}
 use Rattle.tn_messages.proofs.SessionLists.{kept_of_lists}
 use Rattle.tn_search.specs.Probes.{IsNodeAfter, HasMovesAmong}
 use Rattle.tn_search.specs.Sessions.{AreSameAt, AreKeptAt, AreSinksOf, names_at, elements_at, track_messages}
-use Rattle.tn_search.specs.States.{IsStateFor, state_journal, query_of}
+use Rattle.tn_search.specs.States.{IsStateFor, IsFilterFor, state_journal, query_of}
 use Rattle.tn_search.specs.declared.program_state.ProgramState.{ProgramState}
 use Rattle.tn_search.proofs.Places.{alike_at, messages_at}
 use Rattle.tn_search.proofs.RunStates.{run_state_is}
@@ -66,7 +66,7 @@ full_idles p picks pick all full =
     full_journal_stays p picks pick (omega arith)
 
 -- a state with the same sessions as another, whose run is by these picks
-state_at_run : {A K : Type 0} (Keeps : K → List Tree → Type 0) (b : Bool) (x : code.Program A) (s t : ProgramState A K) (a : Query) → IsStateFor Keeps b x s a → (picks : List ℕ) → t.places.items ≡ s.places.items
+state_at_run : {A K F : Type 0} (Keeps : K → List Tree → Type 0) (b : Bool) (x : code.Program A) (s t : ProgramState A K F) (a : Query) → IsStateFor Keeps b x s a → (picks : List ℕ) → t.places.items ≡ s.places.items
     → IsRun (HasRecorded Keeps) a.program JOURNAL picks t.run → IsStateFor Keeps b x t a
 state_at_run Keeps b x s t a is picks places after = record {
   program = is.program;
@@ -75,13 +75,13 @@ state_at_run Keeps b x s t a is picks places after = record {
   sessions = is.sessions ∙ ap (names_at a.program) (sym places);
 }
 
-pub shared : {A K : Type 0} (Keeps : K → List Tree → Type 0) (b : Bool) (x : code.Program A) (s t : ProgramState A K) (a : Query) → IsStateFor Keeps b x s a → t.places.items ≡ s.places.items
+pub shared : {A K F : Type 0} (Keeps : K → List Tree → Type 0) (b : Bool) (x : code.Program A) (s t : ProgramState A K F) (a : Query) → IsStateFor Keeps b x s a → t.places.items ≡ s.places.items
     → IsRunCopy Keeps s.run t.run → (state_journal t ≡ state_journal s) × IsStateFor Keeps b x t a
 shared Keeps b x s t a is places shares =
     let after : IsRun (HasRecorded Keeps) a.program JOURNAL (state_journal s) t.run = shares a.program JOURNAL (state_journal s) is.run in
     (after.journaled, state_at_run Keeps b x s t a is (state_journal s) places after)
 
-module _ {A K G : Type 0} (Keeps : K → List Tree → Type 0) (b : Bool) (Adds : Program → List ℕ → ℕ → Recorder A K → Recorder A K → G → G → Type 0) (x : code.Program A) (s : ProgramState A K) (a : Query) (is : IsStateFor Keeps b x s a)
+module _ {A K F G : Type 0} (Keeps : K → List Tree → Type 0) (b : Bool) (Adds : Program → List ℕ → ℕ → Recorder A K → Recorder A K → G → G → Type 0) (x : code.Program A) (s : ProgramState A K F) (a : Query) (is : IsStateFor Keeps b x s a)
     (new : Run A (Recorder A K)) (pick : ℕ) (out out' : G) (o : PickOutcome)
     (takes : (limit : ℕ) (picks : List ℕ) → IsRun (HasRecorded Keeps) (program_of x) limit picks s.run → Steps (HasRecorded Keeps) Adds (program_of x) limit picks pick o s.run new out out') where
   came : (w : PickOutcome) → o ≡ w → Steps (HasRecorded Keeps) Adds a.program JOURNAL (state_journal s) pick w s.run new out out'
@@ -90,7 +90,7 @@ module _ {A K G : Type 0} (Keeps : K → List Tree → Type 0) (b : Bool) (Adds 
       subst (λ y. Steps (HasRecorded Keeps) Adds a.program JOURNAL (state_journal s) pick y s.run new out out') same
       (subst (λ p. Steps (HasRecorded Keeps) Adds p JOURNAL (state_journal s) pick o s.run new out out') is.program (takes JOURNAL (state_journal s) own))
 
-  pub on_moved : (t : ProgramState A K) → o ≡ Moved → t.places.items ≡ s.places.items → t.run ≡ new → StepGives state_journal (IsStateFor Keeps b x) a (state_journal s) pick t true
+  pub on_moved : (t : ProgramState A K F) → o ≡ Moved → t.places.items ≡ s.places.items → t.run ≡ new → StepGives state_journal (IsStateFor Keeps b x) a (state_journal s) pick t true
   on_moved t same places run =
       let h = came Moved same in
       let after : IsRun (HasRecorded Keeps) a.program JOURNAL (state_journal s ++ pick ∷ []) t.run = subst (IsRun (HasRecorded Keeps) a.program JOURNAL (state_journal s ++ pick ∷ [])) (sym run) h.1 in (
@@ -107,7 +107,7 @@ module _ {A K G : Type 0} (Keeps : K → List Tree → Type 0) (b : Bool) (Adds 
 
 -- ---- picks
 
-module _ {A K : Type 0} (Keeps : K → List Tree → Type 0) (b : Bool) (x : code.Program A) (s : ProgramState A K) (a : Query) (is : IsStateFor Keeps b x s a) where
+module _ {A K F : Type 0} (Keeps : K → List Tree → Type 0) (b : Bool) (x : code.Program A) (s : ProgramState A K F) (a : Query) (is : IsStateFor Keeps b x s a) where
   few : length a.program.entries ≤ 64
   few =
       let same : length a.program.entries ≡ length x.entries.items = ap (λ (p : Program). length p.entries) (sym is.program) ∙ length-map x.entries.items _ in
@@ -141,7 +141,7 @@ module _ {A K : Type 0} (Keeps : K → List Tree → Type 0) (b : Bool) (x : cod
 
 -- ---- the same state
 
-module _ {A K : Type 0} (Keeps : K → List Tree → Type 0) (b : Bool) (x : code.Program A) (s t : ProgramState A K) (a : Query) (is : IsStateFor Keeps b x s a) (also : IsStateFor Keeps b x t a) where
+module _ {A K F : Type 0} (Keeps : K → List Tree → Type 0) (b : Bool) (x : code.Program A) (s t : ProgramState A K F) (a : Query) (is : IsStateFor Keeps b x s a) (also : IsStateFor Keeps b x t a) where
   some_state : (m n : NodeState) → Some m ≡ Some n → m ≡ n
   some_state m n e = cc
 
@@ -167,7 +167,7 @@ module _ {A K : Type 0} (Keeps : K → List Tree → Type 0) (b : Bool) (x : cod
 
 -- ---- the first state
 
-module _ {A K : Type 0} (Keeps : K → List Tree → Type 0) (b : Bool) (x : code.Program A) (before places : List ℕ) (s : ProgramState A K) (at : s.places.items ≡ places)
+module _ {A K F : Type 0} (Keeps : K → List Tree → Type 0) (b : Bool) (x : code.Program A) (before places : List ℕ) (s : ProgramState A K F) (at : s.places.items ≡ places)
     (follows : Follows (HasRecorded Keeps) (program_of x) 65536 before s.run) where
   whole : take 65536 (moves (program_of x) before) ≡ moves (program_of x) before
   whole =
@@ -178,10 +178,20 @@ module _ {A K : Type 0} (Keeps : K → List Tree → Type 0) (b : Bool) (x : cod
   pub first_journal : state_journal s ≡ moves (program_of x) before
   first_journal = follows.journaled ∙ whole
 
-  pub first_is : IsStateFor Keeps b x s (query_of b (program_of x) before places)
-  first_is = record {
+  pub first_is : (admits : KeptMessages → Bool) → IsStateFor Keeps b x s (query_of admits b (program_of x) before places)
+  first_is admits = record {
     program = refl;
     run = subst (λ xs. IsRun (HasRecorded Keeps) (program_of x) JOURNAL xs s.run) (sym follows.journaled) follows;
     question = refl;
     sessions = ap (names_at (program_of x)) (sym at);
   }
+
+-- ---- a filter
+
+-- where it admits all, and else as it says
+pub admitted_by_open : {A K F : Type 0} (Keeps : K → List Tree → Type 0) (b : Bool) (Admits : F → KeptMessages → Bool) (f : F) (s : ProgramState A K F) → ((kept : KeptMessages) → Admits f kept ≡ true) → (x : code.Program A) → IsAdmitted state_journal (IsStateFor Keeps b x) (IsFilterFor Admits) f s true
+admitted_by_open Keeps b Admits f s all x a is filters = filters (kept_for a (state_journal s)) ∙ all (kept_for a (state_journal s))
+
+pub admitted_by : {A K F : Type 0} (Keeps : K → List Tree → Type 0) (b : Bool) (Admits : F → KeptMessages → Bool) (f : F) (s : ProgramState A K F) (m : KeptMessages) (result : Bool) → Admits f m ≡ result
+    → ((x : code.Program A) (a : Query) → IsStateFor Keeps b x s a → m ≡ kept_for a (state_journal s)) → (x : code.Program A) → IsAdmitted state_journal (IsStateFor Keeps b x) (IsFilterFor Admits) f s result
+admitted_by Keeps b Admits f s m result is keeps x a here filters = filters (kept_for a (state_journal s)) ∙ ap (Admits f) (sym (keeps x a here)) ∙ is

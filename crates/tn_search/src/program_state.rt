@@ -6,19 +6,21 @@ use crate::search_sink::SearchSink;
 use crate::session_states::{add_slots, same_living, same_slots, share_kept};
 use std::alloc::{AllocError, Allocator};
 use std::hash::{FoldHasher, Hasher};
+use std::marker::PhantomData;
 use tn_explore::SearchState;
-use tn_messages::KeptListings;
+use tn_messages::{KeptFilter, KeptListings};
 use tn_node::{Moved, Node};
 use tn_program::Program;
 use tn_trace::{JOURNAL, PickOutcome, Recorder, Run, pass_picks};
 
 /// A state of a program's runs: the run that led there, and the places of the sessions that are asked. The program is
-/// the context of its search.
+/// the context of its search, and `F` says which runs are followed.
 #[derive(Drop)]
-pub struct ProgramState<A: Allocator, K> {
+pub struct ProgramState<A: Allocator, K, F> {
     pub(crate) alloc: A,
     pub(crate) places: Vec<usize, A>,
     pub(crate) run: Run<A, Recorder<A, K>>,
+    pub(crate) filter: PhantomData<F>,
 }
 
 /// The same places.
@@ -76,19 +78,25 @@ fn moving_picks<A: Allocator + Copy>(
     Ok(moving)
 }
 
-impl<A: Allocator + Copy, K: SearchSink<A> + Drop> SearchState<A> for ProgramState<A, K> {
+impl<A: Allocator + Copy, K: SearchSink<A> + Drop, F: KeptFilter<A>> SearchState<A>
+    for ProgramState<A, K, F>
+{
     ghost use Rattle.std.proofs.Common.{refl};
     ghost use Rattle.tn_messages.specs.MessageViews.{kept_seen};
     ghost use Rattle.tn_messages.proofs.Equal.{by_kept};
-    ghost use Rattle.tn_search.specs.States.{IsStateFor, state_journal};
+    ghost use Rattle.tn_search.specs.States.{IsFilterFor, IsStateFor, state_journal};
 
     type Context = Program<A>;
+
+    type Filter = F;
 
     type Observation = KeptListings<A>;
 
     ghost journal = { state_journal };
 
     ghost is_of = { IsStateFor K.keeps K.is_by_process };
+
+    ghost filters = { IsFilterFor F.admits };
 
     ghost kept_seen = { kept_seen };
 
@@ -101,6 +109,14 @@ impl<A: Allocator + Copy, K: SearchSink<A> + Drop> SearchState<A> for ProgramSta
         moving_picks(alloc, self.run.node(), &pass)
     }
 
+    fn is_admitted(&self, alloc: A, filter: &F) -> Result<bool, AllocError> {
+        if filter.is_open() {
+            return Ok(true);
+        }
+        let kept = self.observe(alloc)?;
+        filter.is_admitted(alloc, &kept)
+    }
+
     fn share(&self) -> Result<Self, AllocError> {
         let run = self.run.share()?;
         let places = copy_places(self.alloc, &self.places)?;
@@ -108,6 +124,7 @@ impl<A: Allocator + Copy, K: SearchSink<A> + Drop> SearchState<A> for ProgramSta
             alloc: self.alloc,
             places,
             run,
+            filter: PhantomData,
         })
     }
 

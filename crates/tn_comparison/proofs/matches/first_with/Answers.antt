@@ -1,6 +1,4 @@
-use Rattle.std.proofs.Common.{◌∙◌, ap, sym, refl}
-use Rattle.std.proofs.lemmas.List.{length-map}
-use Rattle.tn_term.specs.Views.{tree_of}
+use Rattle.std.proofs.Common.{refl}
 use Rattle.tn_comparison.proofs.matches.first_with.Goals as goal
 
 pub returns : goal.returns

@@ -1,3 +1,4 @@
+use Rattle.std.proofs.Common.{refl}
 use Rattle.std.proofs.lemmas.Result.{IfOk-weaker}
 use Rattle.tn_program.specs.Views.{program_of}
 use Rattle.tn_search.specs.States.{ExploresProgram, query_of}
@@ -7,7 +8,8 @@ pub returns : goal.returns
 returns g c =
     let b = g.K.SearchSink.is_by_process in
     let p = program_of c.args.program.now in
-    let before = c.args.before.now in
-    let places = c.args.places.now in
-    IfOk-weaker c.explore.result _ (ExploresProgram b p before places c.args.max_states)
-    (λ e is. is (query_of b p before places) c.in_ok-first.ensures.0 c.in_ok-first.ensures.1) c.explore.ensures
+    let before = c.args.plan.now.before.now in
+    let places = c.args.plan.now.places.now in
+    let admits = g.F.KeptFilter.admits c.args.filter.now in
+    IfOk-weaker c.explore.result _ (ExploresProgram admits b p before places c.args.plan.now.max_states)
+    (λ e is. is (query_of admits b p before places) (c.in_ok-first.ensures.0 admits) (λ kept. refl) c.in_ok-first.ensures.1) c.explore.ensures

@@ -7,7 +7,7 @@ pub returns-in-Moved : goal.returns-in-Moved
 returns-in-Moved g c = λ a is.
     let s = c.args.self.now in
     on_moved g.K.MessageSink.keeps g.K.SearchSink.is_by_process (HandsOutAnswer g.K.MessageSink.gives) c.args.context.now s a is c.step.new.self c.args.pick c.new-given.result c.step.new.out c.in_ok-step.field-0
-    (λ limit picks h. c.in_ok-step.ensures.taken limit picks h) (record { alloc = s.alloc; places = s.places; run = c.step.new.self }) c.in-Moved.is refl refl
+    (λ limit picks h. c.in_ok-step.ensures.taken limit picks h) (record { alloc = s.alloc; places = s.places; run = c.step.new.self; filter = s.filter }) c.in-Moved.is refl refl
 
 pub returns-in-Idle : goal.returns-in-Idle
 returns-in-Idle g c = λ a is.
