@@ -1,5 +1,5 @@
 -- Sessions at places of the control list: their states, and what is kept of their messages.
-use Rattle.std.proofs.Common.{◌≡◌, ◌∙◌, ◌+◌, ◌<◌, ℕ, zero, suc, Bool, List, [], ◌∷◌, ◌++◌, length, map, take, drop, get_or, Option, Some, None, refl, sym, ap, subst, append-nil, append_assoc, arith, ◌≤◌}
+use Rattle.std.proofs.Common.{◌≡◌, ◌∙◌, ◌+◌, ◌<◌, ℕ, zero, suc, Bool, List, [], ◌∷◌, ◌++◌, length, map, take, get_or, Option, Some, None, refl, sym, ap, subst, append-nil, append_assoc, arith, ◌≤◌}
 use Rattle.std.specs.Prelude.{slice_get, option_to_list, filter}
 use Rattle.std.proofs.lemmas.List.{take_more, map-append}
 use Rattle.def_term.specs.Alive.{Alive}
@@ -14,7 +14,6 @@ use Rattle.def_run.specs.View.{view, is_own}
 use Rattle.def_run.specs.Listing.{messages, messages_from, state_of}
 use Rattle.def_explore.specs.Alike.{SessionsAlike}
 use Rattle.def_explore.specs.Lists.{EachOf}
-use Rattle.def_explore.specs.Settings.{settings_in}
 use Rattle.def_explore.proofs.Settings.{commands_determine}
 use Rattle.tn_messages.specs.MessageViews.{kept_lists}
 use Rattle.tn_messages.proofs.SessionLists.{kept_two}

@@ -1,19 +1,19 @@
 -- Which picks move a node.
-use Rattle.std.proofs.Common.{◌≡◌, ◌∙◌, ◌+◌, ◌<◌, ◌≤◌, ℕ, Bool, true, false, List, [], ◌∷◌, ◌++◌, length, take, get_or, All, Option, Some, None, refl, sym, ap, subst, arith}
+use Rattle.std.proofs.Common.{◌≡◌, ◌∙◌, ◌+◌, ◌<◌, ◌≤◌, ℕ, Bool, true, false, List, [], ◌∷◌, ◌++◌, length, take, get_or, All, Option, Some, refl, sym, ap, subst}
 use Rattle.std.specs.List.{Contains}
 use Rattle.std.specs.Option.{IsSomeAnd}
 use Rattle.std.proofs.lemmas.List.{take_all}
 use Rattle.std.proofs.lemmas.List.Elements.{All-nil, All-more, All-weaker, Contains-push, Contains-append_left}
 use Rattle.def_script.specs.Program.{Program}
 use Rattle.def_node.specs.Node.{NodeState, PickResult, gives_events, gives_command, gives_nothing, pick_result, next}
-use Rattle.def_run.specs.Run.{moves, run_state_of, pick_step_after}
-use Rattle.def_run.specs.Laws.{IsIdleAfter, state_at}
+use Rattle.def_run.specs.Run.{run_state_of, pick_step_after}
+use Rattle.def_run.specs.Laws.{state_at}
 use Rattle.def_explore.specs.Rests.{IsMovingAfter}
 use Rattle.tn_node.specs.Nodes.{NodeValue, PickAnswer, answers_events, answers_command, answers_nothing, node_at, next_node, moved_seen}
 use Rattle.tn_node.specs.declared.step_outcome.Moved as code
 use Rattle.tn_node.specs.declared.step_outcome.Moved.{Moved}
 use Rattle.tn_trace.proofs.Moves.{nothing_pick}
-use Rattle.tn_search.specs.Probes.{IsNodeAfter, Probes, IsTried, TriesPick, HasMovesAmong}
+use Rattle.tn_search.specs.Probes.{IsNodeAfter, Probes, TriesPick, HasMovesAmong}
 
 -- a node that answers nothing
 nothing_of : (n : NodeValue) (r : PickResult) (new : Option NodeValue) → next_node n r ≡ (new, answers_nothing) → (t : NodeState) × (new ≡ Some (record n { state = t })) × (gives_nothing t ≡ r)

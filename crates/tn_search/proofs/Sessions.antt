@@ -3,20 +3,15 @@ use Rattle.std.proofs.Common.{◌≡◌, ◌∙◌, ◌+◌, ◌<◌, ℕ, Bool,
 use Rattle.std.specs.Prelude.{is_none, not}
 use Rattle.std.specs.Option.{is_some}
 use Rattle.std.proofs.lemmas.List.{take_more}
-use Rattle.def_term.specs.Alive.{Alive}
-use Rattle.def_term.specs.Names.{Mfa}
 use Rattle.def_term.specs.Tree.{Tree}
-use Rattle.def_script.specs.Exports.{Exports}
 use Rattle.def_session.specs.State as definition
 use Rattle.def_session.specs.State.{new_session, absent}
 use Rattle.def_explore.specs.Lists.{EachOf}
 use Rattle.def_explore.specs.Settings.{Settings, settings_in}
-use Rattle.tn_session.specs.Sessions.{SessionValue, SessionProcesses, value_in, processes_in, processes_of}
+use Rattle.tn_session.specs.Sessions.{SessionProcesses, value_in, processes_in, processes_of}
 use Rattle.tn_session.specs.declared.session.Session.{Session}
-use Rattle.tn_trace.specs.Tracks.{Track}
-use Rattle.tn_trace.specs.Slots.{IsSession, IsTracked}
 use Rattle.tn_trace.specs.declared.slot.Slot.{Slot}
-use Rattle.tn_search.specs.Sessions.{IsSameSession, IsSameTrack, IsSameSlot}
+use Rattle.tn_search.specs.Sessions.{IsSameSession, IsSameSlot}
 use Rattle.tn_search.specs.Sinks.{KeepSame}
 
 -- a session of the definitions is its settings and what events change

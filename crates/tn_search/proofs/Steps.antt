@@ -1,5 +1,5 @@
 -- Steps of a state, its picks, and when two states are the same.
-use Rattle.std.proofs.Common.{◌≡◌, ◌∙◌, ◌+◌, ◌<◌, ◌≤◌, ℕ, Bool, true, false, List, [], ◌∷◌, ◌++◌, length, map, take, All, Option, Some, IsTrue, refl, sym, ap, subst, arith, if◌then◌else◌, length-append}
+use Rattle.std.proofs.Common.{◌≡◌, ◌∙◌, ◌+◌, ◌<◌, ◌≤◌, ℕ, Bool, true, false, List, [], ◌∷◌, ◌++◌, length, take, All, Option, Some, refl, sym, ap, subst, arith, if◌then◌else◌, length-append}
 use Rattle.std.specs.List.{Contains}
 use Rattle.std.proofs.lemmas.List.{length-map, take_all}
 use Rattle.std.proofs.lemmas.List.Elements.{All-contains}
@@ -20,7 +20,7 @@ use Rattle.def_explore.proofs.Passes.{moves_are_of_a_pass}
 use Rattle.tn_term.specs.Views.{alive_of}
 use Rattle.tn_program.specs.Views.{program_of}
 use Rattle.tn_program.specs.declared.parts.Program as code
-use Rattle.tn_node.specs.Nodes.{NodeValue, node_at, state_in}
+use Rattle.tn_node.specs.Nodes.{NodeValue, state_in}
 use Rattle.tn_trace.specs.Tracks.{tracks_of}
 use Rattle.tn_trace.specs.Recorders.{HasRecorded}
 use Rattle.tn_trace.specs.Runs.{IsRun, Steps}
@@ -33,7 +33,7 @@ use Rattle.tn_trace.specs.declared.run.Run.{Run}
 use Rattle.tn_trace.proofs.Moves.{moves_more}
 use Rattle.tn_explore.specs.Query.{Query, AlikeFor, kept_for}
 use Rattle.tn_explore.specs.SearchStates.{StepGives, IsAdmitted}
-use Rattle.tn_messages.specs.MessageViews.{question_of, kept_lists}
+use Rattle.tn_messages.specs.MessageViews.{kept_lists}
 use Rattle.tn_messages.proofs.SessionLists.{kept_of_lists}
 use Rattle.tn_search.specs.Probes.{IsNodeAfter, HasMovesAmong}
 use Rattle.tn_search.specs.Sessions.{AreSameAt, AreKeptAt, AreSinksOf, names_at, elements_at, track_messages}

@@ -1,4 +1,4 @@
-use Rattle.std.proofs.Common.{[], refl}
+use Rattle.std.proofs.Common.{[]}
 use Rattle.tn_program.specs.Views.{program_of}
 use Rattle.tn_trace.specs.Follows.{Follows}
 use Rattle.tn_trace.specs.Recorders.{HasRecorded}

@@ -1,4 +1,4 @@
-use Rattle.std.proofs.Common.{[], sym, subst}
+use Rattle.std.proofs.Common.{sym, subst}
 use Rattle.tn_search.proofs.Gathers.{AreListsUpTo, no_lists, lists_more, all_lists}
 use Rattle.tn_search.proofs.process_sink.lists_of.Goals as goal
 

@@ -1,11 +1,9 @@
 use Rattle.std.proofs.Common.{◌≡◌, ◌∙◌, List, ap, sym, subst}
 use Rattle.std.proofs.lemmas.Result.{IfOk-weaker}
 use Rattle.def_term.specs.Tree.{Tree}
-use Rattle.tn_explore.specs.Query.{Query, kept_for}
 use Rattle.tn_messages.specs.MessageViews.{kept_seen, kept_lists}
 use Rattle.tn_trace.specs.declared.recorder.Recorder.{Recorder}
 use Rattle.tn_search.specs.Sessions.{AreSinksOf, AreKeptAt}
-use Rattle.tn_search.specs.States.{IsStateFor, state_journal}
 use Rattle.tn_search.proofs.Steps.{observed}
 use Rattle.tn_search.proofs.program_state.ProgramStateSearchState.observe.Goals as goal
 

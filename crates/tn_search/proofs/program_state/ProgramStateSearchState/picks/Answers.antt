@@ -1,10 +1,6 @@
-use Rattle.std.proofs.Common.{◌≡◌, ◌∙◌, ℕ, length, ap, arith}
+use Rattle.std.proofs.Common.{◌≡◌, ◌∙◌, length, ap, arith}
 use Rattle.std.proofs.lemmas.Result.{IfOk-weaker}
-use Rattle.std.specs.List.{Contains}
-use Rattle.def_explore.specs.Rests.{IsMovingAfter}
-use Rattle.tn_explore.specs.Query.{Query}
 use Rattle.tn_search.specs.Probes.{HasMovesAmong}
-use Rattle.tn_search.specs.States.{IsStateFor, state_journal}
 use Rattle.tn_search.proofs.Steps.{all_moves, no_moves}
 use Rattle.tn_search.proofs.program_state.ProgramStateSearchState.picks.Goals as goal
 
