@@ -6,27 +6,25 @@ ghost use Rattle.complete_explore.specs.Explorations.{ExploreAlike};
 
 use std::alloc::{AllocError, Allocator};
 use tn_explore::Exploration;
-use tn_messages::KeptListings;
+use tn_messages::{KeptListings, RunFilter};
 use tn_program::Program;
-use tn_search::ListingOrder;
+use tn_search::SearchPlan;
 
 /// What a search answers, or refused memory.
 type ProgramResult<A> = Result<Exploration<A, KeptListings<A>>, AllocError>;
 
 /// `tn_search::explore_program` has one answer where all states are tried: the same is kept, with journals that are as
 /// long.
-pub fn explore_program<A: Allocator + Copy>(
+pub fn explore_program<A: Allocator + Copy, F: RunFilter<A>>(
     alloc: A,
     programs: (&Program<A>, &Program<A>),
-    before: &[u32],
-    order: ListingOrder,
-    places: &[usize],
-    max_states: usize,
+    filter: &F,
+    plan: &SearchPlan<'_>,
 ) -> (ProgramResult<A>, ProgramResult<A>)
     requires { program_of programs.0.now ≡ program_of programs.1.now }
     ensures { IfOk result.0 (λ e. IfOk result.1 (ExploreAlike kept_seen e)) }
 {
-    let first = tn_search::explore_program(alloc, programs.0, before, order, places, max_states);
-    let second = tn_search::explore_program(alloc, programs.1, before, order, places, max_states);
+    let first = tn_search::explore_program(alloc, programs.0, filter, plan);
+    let second = tn_search::explore_program(alloc, programs.1, filter, plan);
     (first, second)
 }

@@ -13,18 +13,18 @@ type SearchResult<A, S> = Result<Exploration<A, <S as SearchState<A>>::Observati
 /// `tn_explore::explore` has one answer where all states are tried: the same is kept, with journals that are as long.
 pub fn explore<A: Allocator + Copy, S: SearchState<A>>(
     alloc: A,
-    context: &S::Context,
-    other_context: &S::Context,
+    contexts: (&S::Context, &S::Context),
+    filter: &S::Filter,
     one: S,
     other: S,
     max_states: usize,
 ) -> (SearchResult<A, S>, SearchResult<A, S>)
     ensures { IfOk result.0 (λ e. IfOk result.1 (λ f. (a : Query) →
-        S.is_of context.now one a → S.is_of other_context.now other a →
+        S.is_of contexts.0.now one a → S.is_of contexts.1.now other a → S.filters filter.now a →
         S.journal one ≡ moves a.program a.before → S.journal other ≡ moves a.program a.before →
         ExploreAlike S.kept_seen e f)) }
 {
-    let first = tn_explore::explore(alloc, context, one, max_states);
-    let second = tn_explore::explore(alloc, other_context, other, max_states);
+    let first = tn_explore::explore(alloc, contexts.0, filter, one, max_states);
+    let second = tn_explore::explore(alloc, contexts.1, filter, other, max_states);
     (first, second)
 }

@@ -8,10 +8,10 @@ use Rattle.def_run.specs.Run.{moves}
 use Rattle.def_explore.specs.Rests.{RunQuestion, KeptMessages, IsRestAfter, kept_in}
 use Rattle.def_explore.specs.Alike.{IsStateAlike}
 use Rattle.def_explore.specs.Answers.{RestEntry, IsEntryFor}
-use Rattle.def_explore.specs.Followed.{IsFollowed, IsEndAfter, IsRunToEnd, IsEndEntry, AreSoundWithin, AreCompleteWithin}
+use Rattle.def_explore.specs.RunsToEnd.{IsFollowed, IsEndAfter, IsRunToEnd, IsEndEntry, AreSoundWithin, AreCompleteWithin}
 use Rattle.def_explore.specs.Lists.{OneOf, EachOf}
 use Rattle.def_explore.proofs.Alike.{goes_on, moves_alike}
-use Rattle.def_explore.proofs.FollowedRuns.{run_alike}
+use Rattle.def_explore.proofs.RunsToEnd.{run_alike}
 use Rattle.def_compare.specs.Traces.{TraceQuestion, IsShownBy, begins_trace, prefix_pairs, shown_pairs}
 use Rattle.def_compare.specs.Entries.{Match, match_or, first_match}
 use Rattle.def_compare.specs.Laws.{MatchIsPossible, NoMatchIsImpossible, PossibleIsNotImpossible, PossibleRests, ImpossibleHasNoRun, NoRunHasMore}

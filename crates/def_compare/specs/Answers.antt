@@ -3,10 +3,12 @@
 use Rattle.std.specs.Prelude.{◌&&◌, ◌||◌, not, ℕ, Bool, List, is_some}
 use Rattle.std.specs.List.{list_any}
 use Rattle.def_term.specs.Names.{Name}
+use Rattle.def_explore.specs.Rests.{KeptMessages}
+use Rattle.def_explore.specs.RunsToEnd.{all_runs}
 use Rattle.def_explore.specs.Answers.{RestEntry}
 use Rattle.def_explore.specs.Output.{search_text}
 use Rattle.def_explore.specs.Words.{PatternQuestion, refutes}
-use Rattle.def_compare.specs.Traces.{TraceQuestion}
+use Rattle.def_compare.specs.Traces.{TraceQuestion, begins_trace}
 use Rattle.def_compare.specs.Entries.{possible_by}
 use Rattle.def_compare.specs.Output.{comparison_text}
 
@@ -14,6 +16,11 @@ use Rattle.def_compare.specs.Output.{comparison_text}
 pub data SearchQuestion : Type 0 where
   about_patterns : List PatternQuestion → SearchQuestion
   about_trace : TraceQuestion → SearchQuestion
+
+-- what is kept of the runs that are followed: those that begin the trace, or all
+abbrev pub admits_for : SearchQuestion → KeptMessages → Bool
+admits_for (about_patterns qs) = all_runs
+admits_for (about_trace a) = begins_trace a.messages
 
 -- what is written
 abbrev pub answer_text : List (Name × Name) → SearchQuestion → List RestEntry → ℕ → Bool → List ℕ

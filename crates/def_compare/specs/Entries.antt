@@ -7,7 +7,7 @@ use Rattle.def_script.specs.Program.{Program}
 use Rattle.def_run.specs.Run.{moves}
 use Rattle.def_explore.specs.Rests.{RunQuestion, KeptMessages, kept_in}
 use Rattle.def_explore.specs.Answers.{RestEntry, IsJournalFrom}
-use Rattle.def_explore.specs.Followed.{IsRunToEnd}
+use Rattle.def_explore.specs.RunsToEnd.{IsRunToEnd}
 use Rattle.def_compare.specs.Traces.{TraceQuestion, IsPrefixBy, IsShownBy, begins_trace, prefix_pairs, shown_pairs}
 
 -- a run that goes on from these picks, is followed as long as what is kept begins the trace, and shows the trace, with the partners of its pids

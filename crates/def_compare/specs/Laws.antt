@@ -6,7 +6,7 @@ use Rattle.def_term.specs.Names.{Name}
 use Rattle.def_script.specs.Program.{Program}
 use Rattle.def_explore.specs.Rests.{IsRestAfter, RunQuestion, KeptMessages, kept_in}
 use Rattle.def_explore.specs.Answers.{RestEntry}
-use Rattle.def_explore.specs.Followed.{AreSoundWithin, AreCompleteWithin}
+use Rattle.def_explore.specs.RunsToEnd.{AreSoundWithin, AreCompleteWithin}
 use Rattle.def_compare.specs.Traces.{TraceQuestion, IsShownBy, begins_trace, shown_pairs}
 use Rattle.def_compare.specs.Entries.{IsPossibleBy, IsImpossible, NoneBeginsWith, Match, Prefix, possible_by, prefix_match, longest_prefix}
 

@@ -5,7 +5,7 @@ use Rattle.def_script.specs.Program.{Program}
 use Rattle.def_run.specs.Run.{moves}
 use Rattle.def_explore.specs.Rests.{IsRestAfter, RunQuestion}
 use Rattle.def_explore.specs.Answers.{RestEntry, IsRestEntry}
-use Rattle.def_explore.specs.Followed.{IsFollowed, IsEndAfter, IsRunToEnd, IsEndEntry, all_runs}
+use Rattle.def_explore.specs.RunsToEnd.{IsFollowed, IsEndAfter, IsRunToEnd, IsEndEntry, all_runs}
 use Rattle.def_explore.specs.Laws.{AllRunsAreSound, AllRunsAreComplete, AllRunsAreShortest}
 use Rattle.def_explore.proofs.Lists.{each_also}
 

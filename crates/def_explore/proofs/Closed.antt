@@ -6,11 +6,11 @@ use Rattle.def_run.specs.Run.{pick_step_after, moves}
 use Rattle.def_explore.specs.Rests.{IsRestAfter, RunQuestion, KeptMessages, kept_in}
 use Rattle.def_explore.specs.Alike.{IsStateAlike, HasStateOf, HasNext}
 use Rattle.def_explore.specs.Answers.{RestEntry, IsEntryFor, IsNoLonger}
-use Rattle.def_explore.specs.Followed.{IsFollowed, IsEndAfter, HasNextWithin, IsClosed}
+use Rattle.def_explore.specs.RunsToEnd.{IsFollowed, IsEndAfter, HasNextWithin, IsClosed}
 use Rattle.def_explore.specs.Lists.{OneOf, EachOf}
 use Rattle.def_explore.specs.Laws.{ClosedJournalsHaveAll, RestsHaveEntries, ClosedJournalsAreComplete, ClosedJournalsAreShortest}
 use Rattle.def_explore.proofs.Lists.{one_also, one_both, each_also}
-use Rattle.def_explore.proofs.FollowedRuns.{end_alike}
+use Rattle.def_explore.proofs.RunsToEnd.{end_alike}
 use Rattle.def_explore.proofs.Alike.{alike_then, alike_back, goes_on, still, idle_alike, moved_alike}
 
 module _ (q : RunQuestion) (ss : List Name) (p : Program) (js : List (List ℕ)) where

@@ -1,7 +1,7 @@
 pub mod Lists
 pub mod Alike
 pub mod Passes
-pub mod FollowedRuns
+pub mod RunsToEnd
 pub mod Closed
 pub mod AllRuns
 pub mod SameEntries

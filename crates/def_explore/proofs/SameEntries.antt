@@ -6,11 +6,11 @@ use Rattle.def_run.specs.Run.{moves}
 use Rattle.def_explore.specs.Rests.{RunQuestion, KeptMessages, kept_in}
 use Rattle.def_explore.specs.Alike.{IsStateAlike}
 use Rattle.def_explore.specs.Answers.{RestEntry, IsEntryFor, IsNoLonger}
-use Rattle.def_explore.specs.Followed.{IsRunToEnd, IsEndEntry, AreSoundWithin, AreCompleteWithin, AreShortestWithin}
+use Rattle.def_explore.specs.RunsToEnd.{IsRunToEnd, IsEndEntry, AreSoundWithin, AreCompleteWithin, AreShortestWithin}
 use Rattle.def_explore.specs.Lists.{OneOf, EachOf}
 use Rattle.def_explore.specs.Laws.{HaveTheSame, EntriesAreDetermined}
 use Rattle.def_explore.proofs.Alike.{goes_on, moves_alike, moved_alike}
-use Rattle.def_explore.proofs.FollowedRuns.{run_alike}
+use Rattle.def_explore.proofs.RunsToEnd.{run_alike}
 
 module _ (admits : KeptMessages → Bool) (q : RunQuestion) (ss : List Name) (p : Program) (before : List ℕ) where
   -- the run of an entry, by picks that go on from the first ones

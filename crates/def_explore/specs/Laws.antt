@@ -11,7 +11,7 @@ use Rattle.def_run.specs.Round.{pass}
 use Rattle.def_run.specs.Laws.{IsIdleAfter}
 use Rattle.def_explore.specs.Rests.{IsMovingAfter, IsRestAfter, RunQuestion, KeptMessages}
 use Rattle.def_explore.specs.Alike.{IsStateAlike, HasStateOf, is_pick_among, AreIndependent, IsReduced}
-use Rattle.def_explore.specs.Followed.{IsEndAfter, AreSoundWithin, AreCompleteWithin, AreShortestWithin, IsClosed, HaveAllStates, all_runs}
+use Rattle.def_explore.specs.RunsToEnd.{IsEndAfter, AreSoundWithin, AreCompleteWithin, AreShortestWithin, IsClosed, HaveAllStates, all_runs}
 use Rattle.def_explore.specs.Lists.{OneOf, EachOf}
 use Rattle.def_explore.specs.Answers.{RestEntry, IsEntryFor, IsNoLonger, AreSound, AreComplete, AreCompleteBelow, AreShortest}
 use Rattle.def_explore.specs.Words.{Word, always, never, sometimes, shows, IsTrueWord, AllShow, word_of, any_word, meets, PatternQuestion, refutes}

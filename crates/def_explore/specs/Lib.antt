@@ -2,7 +2,7 @@ pub mod Rests
 pub mod Alike
 pub mod Lists
 pub mod Answers
-pub mod Followed
+pub mod RunsToEnd
 pub mod Words
 pub mod Settings
 pub mod Output

@@ -18,8 +18,8 @@ abbrev pub trace_question_seen : {P : Type 0} → TraceQuestion P → traces.Tra
 trace_question_seen q = record { messages = map tree_of q.messages.items; goes_on = q.goes_on }
 
 -- what is kept begins the trace that is asked about
-abbrev pub admitted_by : {P : Type 0} → TraceQuestion P → KeptMessages → Bool
-admitted_by q = begins_trace (trace_question_seen q).messages
+abbrev pub admits_by : {P : Type 0} → TraceQuestion P → KeptMessages → Bool
+admits_by q = begins_trace (trace_question_seen q).messages
 
 abbrev pub match_seen : {A : Type 0} → TraceMatch A → Match
 match_seen m = record { entry = record { kept = kept_seen m.kept.now; journal = m.journal.now }; pairs = pairs_seen m.pairs }

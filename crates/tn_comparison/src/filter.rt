@@ -3,12 +3,12 @@ use crate::matches::begins_trace;
 use crate::orders::TraceOrders;
 use crate::trace_question::TraceQuestion;
 use std::alloc::{AllocError, Allocator};
-use tn_messages::{KeptFilter, KeptListings};
+use tn_messages::{KeptListings, RunFilter};
 
-impl<P: Allocator, A: Allocator + Copy> KeptFilter<A> for TraceQuestion<P> {
-    ghost use Rattle.tn_comparison.specs.Matches.{admitted_by};
+impl<P: Allocator, A: Allocator + Copy> RunFilter<A> for TraceQuestion<P> {
+    ghost use Rattle.tn_comparison.specs.Matches.{admits_by};
 
-    ghost admits = { admitted_by };
+    ghost admits = { admits_by };
 
     fn is_open(&self) -> bool {
         false

@@ -133,10 +133,7 @@ fn first_with<'e, P: Allocator, A: Allocator + Copy>(
         IfOk result (λ o. option_map match_seen o ≡ first_match (shown_pairs a) es) }
 {
     let orders = TraceOrders::of(alloc, messages)?;
-    let demand = Demand {
-        orders,
-        goes_on,
-    };
+    let demand = Demand { orders, goes_on };
     let found = first_match(alloc, &demand, answers)?;
     Ok(found)
 }

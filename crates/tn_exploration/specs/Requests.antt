@@ -7,7 +7,7 @@ use Rattle.def_script.specs.Program.{Program}
 use Rattle.def_script.specs.Script.{Refusal, creations}
 use Rattle.def_run.specs.Round.{is_empty}
 use Rattle.def_explore.specs.Answers.{RestEntry}
-use Rattle.def_compare.specs.Answers.{answer_text, is_unmet, is_settled}
+use Rattle.def_compare.specs.Answers.{answer_text, admits_for, is_unmet, is_settled}
 use Rattle.tn_answers.specs.SearchAnswers.{search_question_seen}
 use Rattle.tn_explore.specs.Searches.{Explores}
 use Rattle.tn_moves.specs.Schedules.{schedule_seen, AreMovesOf, HasPicks}
@@ -53,7 +53,7 @@ pub record IsSearchText (q : ExploreRequest) (p : Program) (before places text :
   pub entries : List RestEntry
   pub states : ℕ
   pub whole : Bool
-  pub search : Explores (query_of (is_by_process q.order) p before places) entries q.max_states states whole
+  pub search : Explores (query_of (admits_for (search_question_seen q.question)) (is_by_process q.order) p before places) entries q.max_states states whole
   pub written : text ≡ answer_text (elements_at places (creations p.commands)) (search_question_seen q.question) entries states whole
   pub settles : settled ≡ is_settled (search_question_seen q.question) entries whole
   pub demands : unmet ≡ is_unmet (search_question_seen q.question) entries whole

@@ -1,14 +1,19 @@
 // The texts of searches, one after another.
 ghost use Rattle.std.specs.Prelude.{◌≡◌, ◌&&◌, ◌||◌, ◌∷◌, [], IfOk, map};
 ghost use Rattle.tn_program.specs.Views.{program_of};
+ghost use Rattle.def_compare.specs.Answers.{admits_for};
+ghost use Rattle.tn_answers.specs.SearchAnswers.{search_question_seen};
+ghost use Rattle.tn_search.specs.States.{ExploresPlan};
 ghost use Rattle.tn_exploration.specs.Requests.{AddsSearch, AddsSearches, groups_of};
 
 use crate::request::ExploreRequest;
 use crate::sessions::names_at;
-use std::alloc::{AllocError, Allocator};
-use tn_answers::search_answer;
+use std::alloc::{AllocError, Allocator, Global};
+use tn_answers::{SearchQuestion, search_answer};
+use tn_explore::Exploration;
+use tn_messages::{AllRuns, KeptListings};
 use tn_program::Program;
-use tn_search::explore_program;
+use tn_search::{SearchPlan, explore_program};
 
 /// How searches ended: whether more states could change no answer, and whether one refutes a demand or has no run for
 /// the trace.
@@ -16,6 +21,22 @@ use tn_search::explore_program;
 pub(crate) struct SearchEnd {
     pub(crate) is_settled: bool,
     pub(crate) is_unmet: bool,
+}
+
+/// The search that a question is about: each run is followed, or those that begin the trace.
+fn explore_for<A: Allocator + Copy>(
+    alloc: A,
+    program: &Program<A>,
+    question: &SearchQuestion<'_, Global>,
+    plan: &SearchPlan<'_>,
+) -> Result<Exploration<A, KeptListings<A>>, AllocError>
+    ensures { let admits = admits_for (search_question_seen question.now) in
+        IfOk result (ExploresPlan admits (program_of program.now) plan.now) }
+{
+    match question {
+        SearchQuestion::Patterns(_) => explore_program(alloc, program, &AllRuns, plan),
+        SearchQuestion::Trace(trace) => explore_program(alloc, program, *trace, plan),
+    }
 }
 
 /// Appends the text of a search about the sessions at some places.
@@ -31,8 +52,13 @@ fn put_search<A: Allocator + Copy>(
         text.old.items text.new.items) }
 {
     let names = names_at(alloc, program, places)?;
-    let most = request.max_states;
-    let exploration = explore_program(alloc, program, before, request.order, places, most)?;
+    let plan = SearchPlan {
+        before,
+        order: request.order,
+        places,
+        max_states: request.max_states,
+    };
+    let exploration = explore_for(alloc, program, &request.question, &plan)?;
     let answer = search_answer(alloc, &names, &request.question, &exploration)?;
     text.extend_from_slice(&answer.text)?;
     Ok(SearchEnd {

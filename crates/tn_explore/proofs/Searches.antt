@@ -9,7 +9,7 @@ use Rattle.def_run.specs.Laws.{IsIdleAfter}
 use Rattle.def_explore.specs.Rests.{IsMovingAfter, IsRestAfter}
 use Rattle.def_explore.specs.Lists.{OneOf, EachOf}
 use Rattle.def_explore.specs.Answers.{RestEntry, AreDistinct}
-use Rattle.def_explore.specs.Followed.{IsEndEntry}
+use Rattle.def_explore.specs.RunsToEnd.{IsEndEntry}
 use Rattle.def_explore.proofs.Lists.{one_before, one_after, each_also, each_both}
 use Rattle.def_explore.proofs.Alike.{moves_alike}
 use Rattle.def_explore.proofs.Closed.{state_by, closed_have_all, closed_are_complete, closed_are_shortest}

@@ -8,7 +8,7 @@ use Rattle.def_run.specs.Run.{moves, start, pick_step_after}
 use Rattle.def_run.proofs.Appends.{moves-append}
 use Rattle.def_run.specs.Laws.{IsIdleAfter}
 use Rattle.def_explore.specs.Rests.{IsMovingAfter, KeptMessages, RunQuestion, kept_in}
-use Rattle.def_explore.specs.Followed.{IsFollowed}
+use Rattle.def_explore.specs.RunsToEnd.{IsFollowed}
 use Rattle.def_explore.proofs.Lists.{one_before}
 use Rattle.tn_explore.specs.Query.{Query, AdmitsFor, AlikeFor, HasStateFor}
 use Rattle.tn_explore.specs.SearchStates.{StepGives}

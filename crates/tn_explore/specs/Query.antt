@@ -7,7 +7,7 @@ use Rattle.def_run.specs.Run.{moves}
 use Rattle.def_explore.specs.Rests.{RunQuestion, KeptMessages, kept_in}
 use Rattle.def_explore.specs.Alike.{IsStateAlike, HasStateOf}
 use Rattle.def_explore.specs.Answers.{RestEntry, IsJournalFrom, IsEntryFor, IsNoLonger}
-use Rattle.def_explore.specs.Followed.{IsFollowed, IsEndAfter, HasNextWithin, HaveAllStates}
+use Rattle.def_explore.specs.RunsToEnd.{IsFollowed, IsEndAfter, HasNextWithin, HaveAllStates}
 
 -- a program, the picks that a run begins with, a question, the sessions that it is about, and what is kept of the runs that are followed
 pub record Query : Type 0 where

@@ -7,7 +7,7 @@ use Rattle.def_run.specs.Laws.{IsIdleAfter}
 use Rattle.def_explore.specs.Rests.{IsMovingAfter, KeptMessages}
 use Rattle.def_explore.specs.Lists.{OneOf, EachOf}
 use Rattle.def_explore.specs.Answers.{RestEntry, AreDistinct}
-use Rattle.def_explore.specs.Followed.{AreSoundWithin, AreCompleteWithin, AreShortestWithin}
+use Rattle.def_explore.specs.RunsToEnd.{AreSoundWithin, AreCompleteWithin, AreShortestWithin}
 use Rattle.tn_explore.specs.Query.{Query, JournalFor, HasStateFor, HasNextFor, HaveAllFor, EndFor, EntryFor, NoLongerFor, kept_for, entry_for}
 
 -- the entry of a pair: what is kept, and the journal

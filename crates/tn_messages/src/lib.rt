@@ -5,14 +5,14 @@
 //! kept of two runs is equal, and is hashed alike, where the definitions keep the same.
 #![tactic(auto)]
 
-mod kept_filter;
 mod kept_listings;
 mod list;
 mod messages_by_process;
+mod run_filter;
 mod shared_message;
 
-pub use kept_filter::{AllRuns, KeptFilter};
 pub use kept_listings::KeptListings;
 pub use list::{MessageList, same_messages, share_messages};
 pub use messages_by_process::MessagesByProcess;
+pub use run_filter::{AllRuns, RunFilter};
 pub use shared_message::{SharedMessage, is_of_process, message_process};

@@ -10,7 +10,7 @@ use crate::total_sink::TotalSink;
 use std::alloc::{AllocError, Allocator};
 use std::marker::PhantomData;
 use tn_explore::{Exploration, explore};
-use tn_messages::{KeptFilter, KeptListings};
+use tn_messages::{KeptListings, RunFilter};
 use tn_program::Program;
 use tn_trace::{JOURNAL, Recorder, Run};
 
@@ -37,7 +37,7 @@ pub struct SearchPlan<'a> {
 }
 
 /// The state after some picks, of the sessions at some places.
-fn state_after<A: Allocator + Copy, K: SearchSink<A> + Drop, F: KeptFilter<A>>(
+fn state_after<A: Allocator + Copy, K: SearchSink<A> + Drop, F: RunFilter<A>>(
     alloc: A,
     program: &Program<A>,
     before: &[u32],
@@ -59,7 +59,7 @@ fn state_after<A: Allocator + Copy, K: SearchSink<A> + Drop, F: KeptFilter<A>>(
 }
 
 /// The search through all schedules that begin with some picks, by what a state keeps of messages.
-fn explore_by<A: Allocator + Copy, K: SearchSink<A> + Drop, F: KeptFilter<A>>(
+fn explore_by<A: Allocator + Copy, K: SearchSink<A> + Drop, F: RunFilter<A>>(
     alloc: A,
     program: &Program<A>,
     filter: &F,
@@ -78,7 +78,7 @@ fn explore_by<A: Allocator + Copy, K: SearchSink<A> + Drop, F: KeptFilter<A>>(
 /// # Errors
 ///
 /// AllocError where memory was refused.
-pub fn explore_program<A: Allocator + Copy, F: KeptFilter<A>>(
+pub fn explore_program<A: Allocator + Copy, F: RunFilter<A>>(
     alloc: A,
     program: &Program<A>,
     filter: &F,

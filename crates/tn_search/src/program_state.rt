@@ -8,7 +8,7 @@ use std::alloc::{AllocError, Allocator};
 use std::hash::{FoldHasher, Hasher};
 use std::marker::PhantomData;
 use tn_explore::SearchState;
-use tn_messages::{KeptFilter, KeptListings};
+use tn_messages::{KeptListings, RunFilter};
 use tn_node::{Moved, Node};
 use tn_program::Program;
 use tn_trace::{JOURNAL, PickOutcome, Recorder, Run, pass_picks};
@@ -78,9 +78,8 @@ fn moving_picks<A: Allocator + Copy>(
     Ok(moving)
 }
 
-impl<A: Allocator + Copy, K: SearchSink<A> + Drop, F: KeptFilter<A>> SearchState<A>
-    for ProgramState<A, K, F>
-{
+impl<A: Allocator + Copy, K: SearchSink<A> + Drop, F: RunFilter<A>> SearchState<A>
+    for ProgramState<A, K, F> {
     ghost use Rattle.std.proofs.Common.{refl};
     ghost use Rattle.tn_messages.specs.MessageViews.{kept_seen};
     ghost use Rattle.tn_messages.proofs.Equal.{by_kept};

@@ -4,7 +4,7 @@ use Rattle.def_term.specs.Names.{Name}
 use Rattle.def_script.specs.Program.{Program}
 use Rattle.def_explore.specs.Rests.{RunQuestion, KeptMessages}
 use Rattle.def_explore.specs.Alike.{IsStateAlike}
-use Rattle.def_explore.specs.Followed.{IsFollowed, IsEndAfter, IsRunToEnd}
+use Rattle.def_explore.specs.RunsToEnd.{IsFollowed, IsEndAfter, IsRunToEnd}
 use Rattle.def_explore.proofs.Alike.{goes_on, idle_alike}
 
 module _ (admits : KeptMessages → Bool) (q : RunQuestion) (ss : List Name) (p : Program) where

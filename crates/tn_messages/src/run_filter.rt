@@ -3,7 +3,7 @@ use crate::kept_listings::KeptListings;
 use std::alloc::{AllocError, Allocator};
 
 /// Which runs are followed, by what is kept of them.
-pub trait KeptFilter<A: Allocator> {
+pub trait RunFilter<A: Allocator> {
     ghost use Rattle.std.specs.Prelude.{◌≡◌, Bool, true, IfOk, IsTrue};
     ghost use Rattle.def_explore.specs.Rests.{KeptMessages};
     ghost use Rattle.tn_messages.specs.MessageViews.{kept_seen};
@@ -27,8 +27,8 @@ pub trait KeptFilter<A: Allocator> {
 /// Each run is followed.
 pub struct AllRuns;
 
-impl<A: Allocator> KeptFilter<A> for AllRuns {
-    ghost use Rattle.def_explore.specs.Followed.{all_runs};
+impl<A: Allocator> RunFilter<A> for AllRuns {
+    ghost use Rattle.def_explore.specs.RunsToEnd.{all_runs};
 
     ghost admits = { λ filter. all_runs };
 
