@@ -1,3 +1,4 @@
+pub mod DbgRows
 pub mod TextLines
 pub mod TermTexts
 pub mod MessageLines

@@ -1,4 +1,5 @@
 pub mod Lines
+pub mod DbgLines
 pub mod Messages
 pub mod StackTraces
 pub mod TraceTexts

@@ -5,7 +5,8 @@ use Rattle.std.specs.List.{AllZip, filter}
 use Rattle.def_term.specs.Tree.{Tree}
 use Rattle.def_text.specs.Faults.{FaultKind}
 use Rattle.def_text.specs.Spelling.{LENGTH, Spells, IsRefusedAt}
-use Rattle.def_trace_text.specs.Lines.{trace_text_lines, is_passed_over, term_text}
+use Rattle.def_trace_text.specs.Lines.{trace_text_lines, is_passed_over}
+use Rattle.def_trace_text.specs.DbgLines.{trace_line_text}
 use Rattle.def_trace_text.specs.Messages.{is_trace_message}
 use Rattle.def_trace_text.specs.StackTraces.{without_stacks}
 
@@ -14,7 +15,7 @@ use Rattle.def_trace_text.specs.StackTraces.{without_stacks}
 -- the line spells this trace message, with a full stop or without; a stack trace in its term is the empty list
 pub record IsTraceLine (line : List ℕ) (t : Tree) : Type 0 where
   pub term : Tree
-  pub spelled : Spells (term_text line) term
+  pub spelled : Spells (trace_line_text line) term
   pub is_message : is_trace_message term ≡ true
   pub value : t ≡ without_stacks term
 
@@ -40,9 +41,9 @@ pub data LineFault : Type 0 where
 
 -- the line has this fault
 abbrev pub HasFault : List ℕ → LineFault → Type 0
-HasFault line too_long = LENGTH < length (term_text line)
-HasFault line (no_term kind at) = IsRefusedAt (term_text line) kind at
-HasFault line no_message = (t : Tree) × Spells (term_text line) t × (is_trace_message t ≡ false)
+HasFault line too_long = LENGTH < length (trace_line_text line)
+HasFault line (no_term kind at) = IsRefusedAt (trace_line_text line) kind at
+HasFault line no_message = (t : Tree) × Spells (trace_line_text line) t × (is_trace_message t ≡ false)
 
 -- a line by its number from 1, and its fault
 pub record TraceRefusal : Type 0 where
