@@ -1,3 +1,5 @@
+pub mod DbgParts
+pub mod DbgTerms
 pub mod DbgRows
 pub mod TextLines
 pub mod TermTexts

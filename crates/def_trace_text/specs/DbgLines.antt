@@ -29,6 +29,11 @@ part_length end quote escaped (b ∷ bs) =
 
 -- ---- formats
 
+-- the first byte is this one
+abbrev pub begins_with_byte : ℕ → List ℕ → Bool
+begins_with_byte c [] = false
+begins_with_byte c (b ∷ bs) = b == c
+
 -- how many bytes of the line a byte of a format stands for, before the others of the format: one, or where it is a digit a part up to the next byte of the format
 abbrev pub span_length : ℕ → List ℕ → List ℕ → ℕ
 span_length c others line = if is_digit c then part_length (slice_index others 0) None false line else 1
@@ -36,7 +41,7 @@ span_length c others line = if is_digit c then part_length (slice_index others 0
 -- the line has this format: each byte, and a part for each digit
 abbrev pub has_format : List ℕ → List ℕ → Bool
 has_format [] line = length line == 0
-has_format (c ∷ others) line = (is_digit c || (slice_index line 0 == c)) && has_format others (drop (span_length c others line) line)
+has_format (c ∷ others) line = (is_digit c || begins_with_byte c line) && has_format others (drop (span_length c others line) line)
 
 -- the part of the line in the place of this digit of its format
 abbrev pub part_of_line : ℕ → List ℕ → List ℕ → List ℕ
@@ -79,7 +84,7 @@ text_by_formats (f ∷ fs) line = if has_format f.printed line then with_parts f
 
 -- the line is one of `dbg`: it begins with `(`, as no term does
 abbrev pub is_dbg_line : List ℕ → Bool
-is_dbg_line line = slice_index line 0 == 40
+is_dbg_line line = begins_with_byte 40 line
 
 -- the text of the message that a line of `dbg` stands for
 abbrev pub dbg_text : List ℕ → List ℕ

@@ -1,8 +1,11 @@
 -- What is promised of texts of trace messages (own).
--- Depends on their lines, and on what they spell and how they are refused.
+-- Depends on their lines, on the lines of `dbg`, and on what they spell and how they are refused.
 use Rattle.std.specs.Prelude.{◌≡◌, ◌↔◌, ◌⊎◌, ℕ, true, List}
+use Rattle.std.specs.List.{All}
 use Rattle.def_term.specs.Tree.{Tree}
+use Rattle.def_text.specs.Spelling.{Spells}
 use Rattle.def_trace_text.specs.Lines.{AreTextLines, trace_text_lines, IsTermText, term_text}
+use Rattle.def_trace_text.specs.DbgLines.{DbgFormat, dbg_formats, has_format, with_parts, is_dbg_line}
 use Rattle.def_trace_text.specs.Messages.{IsTraceMessage, is_trace_message}
 use Rattle.def_trace_text.specs.TraceTexts.{SpellsTrace, TraceRefusal, IsTraceRefusal}
 
@@ -15,6 +18,14 @@ LinesAreThere = (text : List ℕ) → AreTextLines text (trace_text_lines text)
 -- each line has a text of a term
 abbrev pub TermTextIsThere : Type 0
 TermTextIsThere = (line : List ℕ) → IsTermText line (term_text line)
+
+-- a line of `dbg` spells no term, so that no line is of both kinds
+abbrev pub DbgLineIsNoTerm : Type 0
+DbgLineIsNoTerm = (line : List ℕ) (t : Tree) → is_dbg_line line ≡ true → Spells (term_text line) t → ⊥
+
+-- a line that has a format of `dbg` is what `dbg` prints by it, with the line's parts in the places of the digits
+abbrev pub DbgLineHasParts : Type 0
+DbgLineHasParts = All (λ f. (line : List ℕ) → has_format f.printed line ≡ true → with_parts f.printed f.printed line ≡ line) dbg_formats
 
 -- the messages are those tuples
 abbrev pub MessagesAreTuples : Type 0

@@ -1,5 +1,6 @@
 // The laws of texts of trace messages.
 ghost use Rattle.def_trace_text.specs.TraceLaws.{LinesAreThere, TermTextIsThere, MessagesAreTuples};
+ghost use Rattle.def_trace_text.specs.TraceLaws.{DbgLineIsNoTerm, DbgLineHasParts};
 ghost use Rattle.def_trace_text.specs.TraceLaws.{SpelledTraceIsOne, SpelledTraceIsNotRefused, TraceRefusalIsOne};
 ghost use Rattle.def_trace_text.specs.TraceLaws.{TraceOrRefusal};
 
@@ -7,6 +8,12 @@ ghost use Rattle.def_trace_text.specs.TraceLaws.{TraceOrRefusal};
 pub fn a_line_has_one_term()
     ensures lines { LinesAreThere }
     ensures term { TermTextIsThere }
+{}
+
+/// A line of `dbg` spells no term, and it is what `dbg` prints by its format, with its parts.
+pub fn a_line_is_of_one_kind()
+    ensures one { DbgLineIsNoTerm }
+    ensures parts { DbgLineHasParts }
 {}
 
 /// The trace messages are the tuples of three elements or more with the atom `trace` and a pid first.
