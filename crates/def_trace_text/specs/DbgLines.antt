@@ -75,10 +75,15 @@ dbg_formats =
     ∷ record { printed = codes "(1) 2 3"; message = codes "{trace,1,2,3}" }
     ∷ []
 
--- the text of the message of a line, by the first of these formats that it has; the line itself, where it has none
-abbrev pub text_by_formats : List DbgFormat → List ℕ → List ℕ
-text_by_formats [] line = line
-text_by_formats (f ∷ fs) line = if has_format f.printed line then with_parts f.message f.printed line else text_by_formats fs line
+-- the first of these formats that the line has
+abbrev pub first_format : List DbgFormat → List ℕ → Option DbgFormat
+first_format [] line = None
+first_format (f ∷ fs) line = if has_format f.printed line then Some f else first_format fs line
+
+-- the text of the message by the line's format; the line itself, where it has none
+abbrev pub text_by_format : Option DbgFormat → List ℕ → List ℕ
+text_by_format None line = line
+text_by_format (Some f) line = with_parts f.message f.printed line
 
 -- ---- lines of either kind
 
@@ -88,7 +93,7 @@ is_dbg_line line = begins_with_byte 40 line
 
 -- the text of the message that a line of `dbg` stands for
 abbrev pub dbg_text : List ℕ → List ℕ
-dbg_text line = text_by_formats dbg_formats (without_blanks line)
+dbg_text line = text_by_format (first_format dbg_formats (without_blanks line)) (without_blanks line)
 
 -- the text of the message that a line of either kind stands for
 abbrev pub trace_line_text : List ℕ → List ℕ

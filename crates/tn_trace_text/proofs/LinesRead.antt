@@ -8,6 +8,7 @@ use Rattle.def_text.specs.Spelling.{Spells}
 use Rattle.tn_term.specs.declared.term.Term.{Term}
 use Rattle.tn_term.specs.Views.{tree_of}
 use Rattle.def_trace_text.specs.Lines.{trace_text_lines, is_passed_over, term_text}
+use Rattle.def_trace_text.specs.DbgLines.{is_dbg_line}
 use Rattle.def_trace_text.proofs.TextLines.{no_bytes}
 use Rattle.def_trace_text.proofs.MessageLines.{passed_more, message_more}
 use Rattle.def_trace_text.specs.TraceTexts.{IsTraceLine, lines_with_messages, LinesSpell, SpellsTrace, LineFault, no_message, HasFault, IsTraceRefusal}
@@ -15,7 +16,7 @@ use Rattle.tn_text.specs.declared.fault.TextFault.{TextFault}
 use Rattle.tn_text.specs.declared.fault.TextFault.TheVariants as faults
 use Rattle.tn_text.specs.Answers.{IsTextRefusal}
 use Rattle.tn_trace_text.specs.Faults.{line_fault_seen, term_fault_at}
-use Rattle.tn_trace_text.specs.Readings.{IsLineFault, IsMessageOfLine, IsLineRead, AddsLine, IsContentFault, IsTraceFault}
+use Rattle.tn_trace_text.specs.Readings.{IsTextFault, IsMessageOfLine, IsTextRead, IsDbgLineRead, IsLineRead, AddsLine, IsContentFault, IsTraceFault}
 use Rattle.tn_trace_text.specs.declared.fault.TraceFault.{TraceFault}
 use Rattle.tn_trace_text.specs.declared.fault.TraceFault.TheVariants.{NoTerm, NoMessage, OutOfMemory}
 
@@ -86,17 +87,25 @@ add_none line terms e = record { message = []; spelled = passed_more line [] [] 
 pub add_one : {A : Type 0} (line : List ℕ) (t : Term A) (old new : List (Term A)) → is_passed_over line ≡ false → IsTraceLine line (tree_of t) → new ≡ old ++ t ∷ [] → AddsLine line old new
 add_one line t old new e s is = record { message = tree_of t ∷ []; spelled = message_more line [] (tree_of t) [] e s tt; added = ap (λ ts. map tree_of ts) is ∙ map-append tree_of old (t ∷ []) }
 
--- the refusal of a term's text is the fault of its line
-pub line_fault : (line : List ℕ) (n : ℕ) (fault : TextFault) → IsTextRefusal (term_text line) fault → IsLineFault line n (term_fault_at n fault)
-line_fault line n faults.TooLong h = (refl, h)
-line_fault line n (faults.Token at) h = (refl, h)
-line_fault line n (faults.TooDeep at) h = (refl, h)
-line_fault line n (faults.TooLarge at) h = (refl, h)
-line_fault line n faults.OutOfMemory h = tt
+-- the refusal of a text is its fault
+pub text_fault : (text : List ℕ) (n : ℕ) (fault : TextFault) → IsTextRefusal text fault → IsTextFault text n (term_fault_at n fault)
+text_fault text n faults.TooLong h = (refl, h)
+text_fault text n (faults.Token at) h = (refl, h)
+text_fault text n (faults.TooDeep at) h = (refl, h)
+text_fault text n (faults.TooLarge at) h = (refl, h)
+text_fault text n faults.OutOfMemory h = tt
 
--- what a term of a line is, is read of the line
-pub message_line : {A : Type 0} (line : List ℕ) (u : Tree) (n : ℕ) (r : Result (Term A) TraceFault) → Spells (term_text line) u → IsMessageOfLine u n r → IsLineRead line n r
-message_line line u n (Ok t) s h = record { term = u; spelled = s; is_message = h.0; value = h.1 }
-message_line line u n (Err (NoTerm m fault)) s h = absurd h
-message_line line u n (Err (NoMessage m)) s h = (h.0, (u, s, h.1))
-message_line line u n (Err OutOfMemory) s h = tt
+-- what the term of a text is, is read of the text
+pub message_text_read : {A : Type 0} (text : List ℕ) (u : Tree) (n : ℕ) (r : Result (Term A) TraceFault) → Spells text u → IsMessageOfLine u n r → IsTextRead text n r
+message_text_read text u n (Ok t) s h = record { term = u; spelled = s; is_message = h.0; value = h.1 }
+message_text_read text u n (Err (NoTerm m fault)) s h = absurd h
+message_text_read text u n (Err (NoMessage m)) s h = (h.0, (u, s, h.1))
+message_text_read text u n (Err OutOfMemory) s h = tt
+
+-- a line of `dbg`
+pub dbg_line_read : {A : Type 0} (line : List ℕ) (n : ℕ) (r : Result (Term A) TraceFault) → is_dbg_line line ≡ true → IsDbgLineRead line n r → IsLineRead line n r
+dbg_line_read line n r e h = rw e h
+
+-- a line of the other kind
+pub term_line_read : {A : Type 0} (line : List ℕ) (n : ℕ) (r : Result (Term A) TraceFault) → is_dbg_line line ≡ false → IsTextRead (term_text line) n r → IsLineRead line n r
+term_line_read line n r e h = rw e h

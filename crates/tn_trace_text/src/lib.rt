@@ -5,6 +5,7 @@
 //! the first line that spells none, by its number, and why.
 #![tactic(auto)]
 
+mod dbg;
 mod fault;
 mod line;
 mod message;

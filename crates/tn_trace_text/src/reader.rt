@@ -2,8 +2,10 @@
 ghost use Rattle.std.specs.Prelude.{◌≡◌, IfOk, IfErr};
 ghost use Rattle.tn_term.specs.Views.{tree_of};
 ghost use Rattle.tn_trace_text.specs.Faults.{term_fault_at};
-ghost use Rattle.tn_trace_text.specs.Readings.{IsMessageOfLine, IsLineRead, AddsLine, IsContentFault, IsTraceRead};
+ghost use Rattle.tn_trace_text.specs.Readings.{IsMessageOfLine, IsTextRead, IsDbgLineRead, IsLineRead};
+ghost use Rattle.tn_trace_text.specs.Readings.{AddsLine, IsContentFault, IsTraceRead};
 
+use crate::dbg::{dbg_text, is_dbg_line};
 use crate::fault::TraceFault;
 use crate::line::{first_line, is_passed_over, term_text};
 use crate::message::is_trace_message;
@@ -42,6 +44,34 @@ fn message_of<A: Allocator + Copy>(
     }
 }
 
+/// The trace message that the text of a line spells, which has this number.
+fn read_text<A: Allocator + Copy>(
+    alloc: A,
+    text: &[u8],
+    number: usize,
+) -> Result<Term<A>, TraceFault>
+    ensures { IsTextRead text.now number result }
+{
+    match read_term(alloc, text) {
+        Err(fault) => Err(fault_at(number, fault)),
+        Ok(term) => message_of(alloc, &term, number),
+    }
+}
+
+/// The trace message that a line of `dbg` stands for, which has this number.
+fn read_dbg_line<A: Allocator + Copy>(
+    alloc: A,
+    line: &[u8],
+    number: usize,
+) -> Result<Term<A>, TraceFault>
+    ensures { IsDbgLineRead line.now number result }
+{
+    match dbg_text(alloc, line) {
+        Ok(text) => read_text(alloc, text.as_slice(), number),
+        Err(_) => Err(TraceFault::OutOfMemory),
+    }
+}
+
 /// The trace message that a line spells, which has this number.
 fn read_line<A: Allocator + Copy>(
     alloc: A,
@@ -50,9 +80,10 @@ fn read_line<A: Allocator + Copy>(
 ) -> Result<Term<A>, TraceFault>
     ensures { IsLineRead line.now number result }
 {
-    match read_term(alloc, term_text(line)) {
-        Err(fault) => Err(fault_at(number, fault)),
-        Ok(term) => message_of(alloc, &term, number),
+    if is_dbg_line(line) {
+        read_dbg_line(alloc, line, number)
+    } else {
+        read_text(alloc, term_text(line), number)
     }
 }
 
