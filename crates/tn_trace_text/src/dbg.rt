@@ -21,20 +21,8 @@ fn quote_after(quote: Option<u8>, escaped: bool, b: u8) -> Option<u8>
     ensures { result ≡ quote_after quote escaped b }
 {
     match quote {
-        None => {
-            if is_quote(b) {
-                Some(b)
-            } else {
-                None
-            }
-        }
-        Some(q) => {
-            if !escaped && b == q {
-                None
-            } else {
-                Some(q)
-            }
-        }
+        None => { if is_quote(b) { Some(b) } else { None } }
+        Some(q) => { if !escaped && b == q { None } else { Some(q) } }
     }
 }
 
