@@ -1,6 +1,6 @@
 -- Rows: lines as `dbg` of OTP 27 printed them, and the texts of their messages.
 use Rattle.std.proofs.Common.{◌≡◌, List, ℕ, [], ◌∷◌, true, false, codes, refl}
-use Rattle.def_trace_text.specs.DbgLines.{is_dbg_line, trace_line_text}
+use Rattle.def_trace_text.specs.DbgLines.{whole_text_lines, trace_line_text}
 
 -- the text of the message that a line stands for
 abbrev Reads : (line text : List ℕ) → Type 0
@@ -85,3 +85,24 @@ no_format = refl
 -- the first line of a message that `dbg` broke: the last part ends within a list
 pub broken_line : Reads (codes "(<0.85.0>) returned from t:f/1 -> {ok,") (codes "{trace,<0.85.0>,return_from,{t,f,1},{ok,}")
 broken_line = refl
+
+-- ---- messages over several lines
+
+-- a list of an argument that `dbg` broke, and an exit after it
+pub broken_call :
+    whole_text_lines (codes "(<0.85.0>) call m:f([1,2,\n 3]) ({a,\n      'b c'})\r\n(<0.85.0>) exit {a,\n   b}\n")
+    ≡ codes "(<0.85.0>) call m:f([1,2,\n 3]) ({a,\n      'b c'})" ∷ [] ∷ [] ∷ codes "(<0.85.0>) exit {a,\n   b}" ∷ [] ∷ []
+broken_call = refl
+
+-- a line that begins with a blank is one of its own after a term, a comment and a line of blanks
+pub blanks_after_terms : whole_text_lines (codes "a\n b\n(c\n % d\n e\n(f\n \n g") ≡ codes "a" ∷ codes " b" ∷ codes "(c" ∷ codes " % d" ∷ codes " e" ∷ codes "(f" ∷ codes " " ∷ codes " g" ∷ []
+blanks_after_terms = refl
+
+pub broken_call_read : Reads (codes "(<0.85.0>) call m:f([1,2,\n 3]) ({a,\n      'b c'})") (codes "{trace,<0.85.0>,call,{m,f,[[1,2,\n 3]]},{a,\n      'b c'}}")
+broken_call_read = refl
+
+pub broken_exit : Reads (codes "(<0.85.0>) exit {a,\n   b}") (codes "{trace,<0.85.0>,exit,{a,\n   b}}")
+broken_exit = refl
+
+pub broken_exception : Reads (codes "(<0.85.0>) exception_from {m,f,1} {error,\n {badmatch,' ]'}}") (codes "{trace,<0.85.0>,exception_from,{m,f,1},{error,\n {badmatch,' ]'}}}")
+broken_exception = refl

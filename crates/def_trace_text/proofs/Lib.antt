@@ -1,3 +1,4 @@
+pub mod WholeLines
 pub mod DbgParts
 pub mod DbgTerms
 pub mod DbgRows

@@ -6,8 +6,8 @@ use Rattle.def_text.specs.Faults.{FaultKind}
 use Rattle.def_text.specs.Spelling.{LENGTH, Spells, IsRefusedAt}
 use Rattle.def_text.proofs.One.{one, refused}
 use Rattle.def_text.proofs.Either.{once, either}
-use Rattle.def_trace_text.specs.Lines.{trace_text_lines, is_passed_over}
-use Rattle.def_trace_text.specs.DbgLines.{trace_line_text}
+use Rattle.def_trace_text.specs.Lines.{is_passed_over}
+use Rattle.def_trace_text.specs.DbgLines.{whole_text_lines, trace_line_text}
 use Rattle.def_trace_text.specs.Messages.{is_trace_message}
 use Rattle.def_trace_text.specs.StackTraces.{without_stacks}
 use Rattle.def_trace_text.specs.TraceTexts.{IsTraceLine, LinesSpell, SpellsTrace, LineFault, too_long, no_term, no_message, HasFault, TraceRefusal, LinesHaveFault, IsTraceRefusal}
@@ -164,4 +164,4 @@ answer [] = inl ([], tt)
 answer (line ∷ lines) = one_more (is_passed_over line) line lines refl (answer lines)
 
 pub trace_or_refusal : (text : List ℕ) → ((ts : List Tree) × SpellsTrace text ts) ⊎ ((r : TraceRefusal) × IsTraceRefusal text r)
-trace_or_refusal text = answer (trace_text_lines text)
+trace_or_refusal text = answer (whole_text_lines text)

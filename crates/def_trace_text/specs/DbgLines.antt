@@ -1,9 +1,9 @@
--- The lines that `dbg` prints of trace messages ("tracer/0" of the module `dbg` of OTP 27's runtime_tools; its `dhandler1/3`, `ffunc/2` and `ftup/4` have the formats), and the text of the message that such a line stands for. A line here has a whole message (own): `~p` breaks a long one into several.
+-- The lines that `dbg` prints of trace messages ("tracer/0" of the module `dbg` of OTP 27's runtime_tools; its `dhandler1/3`, `ffunc/2` and `ftup/4` have the formats), and the text of the message that such a line stands for. `~p` breaks a long term into several lines, each of which but the first begins with a blank.
 -- Depends on the digits of written terms, and on the lines of a text.
-use Rattle.std.specs.Prelude.{ℕ, ◌+◌, ◌==◌, Bool, true, false, not, ◌&&◌, ◌||◌, List, [], ◌∷◌, length, take, drop, slice_index, flat_map, Option, Some, None, if◌then◌else◌, codes}
+use Rattle.std.specs.Prelude.{ℕ, ◌+◌, ◌-◌, ◌==◌, Bool, true, false, not, ◌&&◌, ◌||◌, List, [], ◌∷◌, ◌++◌, length, take, drop, slice_index, flat_map, Option, Some, None, if◌then◌else◌, codes}
 use Rattle.std.specs.Option.{is_none}
 use Rattle.def_term.specs.Text.{is_digit}
-use Rattle.def_trace_text.specs.Lines.{without_blanks, term_text}
+use Rattle.def_trace_text.specs.Lines.{trace_text_lines, is_passed_over, without_blanks, term_text}
 
 -- ---- parts of a line
 
@@ -20,12 +20,24 @@ quote_after (Some q) escaped b = if not escaped && (b == q) then None else Some 
 abbrev pub escapes_next : Option ℕ → Bool → ℕ → Bool
 escapes_next quote escaped b = not (is_none quote) && (not escaped && (b == 92))
 
--- how many bytes come before the first byte of this kind that isn't between quotes; all of them, where there is none
-abbrev pub part_length : ℕ → Option ℕ → Bool → List ℕ → ℕ
-part_length end quote escaped [] = 0
-part_length end quote escaped (b ∷ bs) =
-    if is_none quote && (b == end) then 0
-    else part_length end (quote_after quote escaped b) (escapes_next quote escaped b) bs + 1
+-- a tuple or a list begins with the byte, which is not between quotes
+abbrev pub opens_term : Option ℕ → ℕ → Bool
+opens_term quote b = is_none quote && ((b == 123) || (b == 91))
+
+-- a tuple or a list ends with it
+abbrev pub closes_term : Option ℕ → ℕ → Bool
+closes_term quote b = is_none quote && ((b == 125) || (b == 93))
+
+-- how many tuples and lists are open after the byte
+abbrev pub nesting_after : Option ℕ → ℕ → ℕ → ℕ
+nesting_after quote depth b = if opens_term quote b then depth + 1 else (if closes_term quote b then depth - 1 else depth)
+
+-- how many bytes come before the first byte of this kind that is neither between quotes nor in a tuple or list; all of them, where there is none
+abbrev pub part_length : ℕ → Option ℕ → Bool → ℕ → List ℕ → ℕ
+part_length end quote escaped depth [] = 0
+part_length end quote escaped depth (b ∷ bs) =
+    if is_none quote && ((depth == 0) && (b == end)) then 0
+    else part_length end (quote_after quote escaped b) (escapes_next quote escaped b) (nesting_after quote depth b) bs + 1
 
 -- ---- formats
 
@@ -36,7 +48,7 @@ begins_with_byte c (b ∷ bs) = b == c
 
 -- how many bytes of the line a byte of a format stands for, before the others of the format: one, or where it is a digit a part up to the next byte of the format
 abbrev pub span_length : ℕ → List ℕ → List ℕ → ℕ
-span_length c others line = if is_digit c then part_length (slice_index others 0) None false line else 1
+span_length c others line = if is_digit c then part_length (slice_index others 0) None false 0 line else 1
 
 -- the line has this format: each byte, and a part for each digit
 abbrev pub has_format : List ℕ → List ℕ → Bool
@@ -90,6 +102,36 @@ text_by_format (Some f) line = with_parts f.message f.printed line
 -- the line is one of `dbg`: it begins with `(`, as no term does
 abbrev pub is_dbg_line : List ℕ → Bool
 is_dbg_line line = begins_with_byte 40 line
+
+-- the line goes on with the message of the line before it, where that one is of `dbg`: it begins with a blank, and has more than blanks and a comment
+abbrev pub is_further : List ℕ → Bool
+is_further line = begins_with_byte 32 line && not (is_passed_over line)
+
+-- the first lines of these that go on, each after a line feed
+abbrev pub further_text : List (List ℕ) → List ℕ
+further_text [] = []
+further_text (line ∷ lines) = if is_further line then 10 ∷ line ++ further_text lines else []
+
+-- the line with those of the next lines that go on with it, where it is of `dbg`
+abbrev pub with_further : List ℕ → List (List ℕ) → List ℕ
+with_further line next = if is_dbg_line line then line ++ further_text next else line
+
+-- the same, or nothing where it goes on with the line before it; inside of a message it may
+abbrev pub whole_line : Bool → List ℕ → List (List ℕ) → List ℕ
+whole_line inside line next = if inside && is_further line then [] else with_further line next
+
+-- after the line a message may go on
+abbrev pub is_inside_after : Bool → List ℕ → Bool
+is_inside_after inside line = (inside && is_further line) || is_dbg_line line
+
+-- each line with those that go on with it; in their places are empty lines
+abbrev pub whole_lines : Bool → List (List ℕ) → List (List ℕ)
+whole_lines inside [] = []
+whole_lines inside (line ∷ next) = whole_line inside line next ∷ whole_lines (is_inside_after inside line) next
+
+-- the lines of a text, so
+abbrev pub whole_text_lines : List ℕ → List (List ℕ)
+whole_text_lines text = whole_lines false (trace_text_lines text)
 
 -- the text of the message that a line of `dbg` stands for
 abbrev pub dbg_text : List ℕ → List ℕ

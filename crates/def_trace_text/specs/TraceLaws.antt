@@ -1,11 +1,11 @@
 -- What is promised of texts of trace messages (own).
 -- Depends on their lines, on the lines of `dbg`, and on what they spell and how they are refused.
-use Rattle.std.specs.Prelude.{◌≡◌, ◌↔◌, ◌⊎◌, ℕ, true, List}
+use Rattle.std.specs.Prelude.{◌≡◌, ◌↔◌, ◌⊎◌, ℕ, true, false, List, length}
 use Rattle.std.specs.List.{All}
 use Rattle.def_term.specs.Tree.{Tree}
 use Rattle.def_text.specs.Spelling.{Spells}
 use Rattle.def_trace_text.specs.Lines.{AreTextLines, trace_text_lines, IsTermText, term_text}
-use Rattle.def_trace_text.specs.DbgLines.{DbgFormat, dbg_formats, has_format, with_parts, is_dbg_line}
+use Rattle.def_trace_text.specs.DbgLines.{DbgFormat, dbg_formats, has_format, with_parts, is_dbg_line, whole_text_lines}
 use Rattle.def_trace_text.specs.Messages.{IsTraceMessage, is_trace_message}
 use Rattle.def_trace_text.specs.TraceTexts.{SpellsTrace, TraceRefusal, IsTraceRefusal}
 
@@ -26,6 +26,14 @@ DbgLineIsNoTerm = (line : List ℕ) (t : Tree) → is_dbg_line line ≡ true →
 -- a line that has a format of `dbg` is what `dbg` prints by it, with the line's parts in the places of the digits
 abbrev pub DbgLineHasParts : Type 0
 DbgLineHasParts = All (λ f. (line : List ℕ) → has_format f.printed line ≡ true → with_parts f.printed f.printed line ≡ line) dbg_formats
+
+-- there are as many of them as lines, so that their numbers are those of the lines
+abbrev pub WholeLinesAreAsMany : Type 0
+WholeLinesAreAsMany = (text : List ℕ) → length (whole_text_lines text) ≡ length (trace_text_lines text)
+
+-- where no line is of `dbg`, they are the lines
+abbrev pub OtherLinesAreWhole : Type 0
+OtherLinesAreWhole = (text : List ℕ) → All (λ line. is_dbg_line line ≡ false) (trace_text_lines text) → whole_text_lines text ≡ trace_text_lines text
 
 -- the messages are those tuples
 abbrev pub MessagesAreTuples : Type 0

@@ -5,8 +5,8 @@ use Rattle.std.specs.List.{AllZip, filter}
 use Rattle.def_term.specs.Tree.{Tree}
 use Rattle.def_text.specs.Faults.{FaultKind}
 use Rattle.def_text.specs.Spelling.{LENGTH, Spells, IsRefusedAt}
-use Rattle.def_trace_text.specs.Lines.{trace_text_lines, is_passed_over}
-use Rattle.def_trace_text.specs.DbgLines.{trace_line_text}
+use Rattle.def_trace_text.specs.Lines.{is_passed_over}
+use Rattle.def_trace_text.specs.DbgLines.{whole_text_lines, trace_line_text}
 use Rattle.def_trace_text.specs.Messages.{is_trace_message}
 use Rattle.def_trace_text.specs.StackTraces.{without_stacks}
 
@@ -33,7 +33,7 @@ LinesSpell lines ts = AllZip IsTraceLine (lines_with_messages lines) ts
 
 -- the text spells these trace messages
 abbrev pub SpellsTrace : List ℕ → List Tree → Type 0
-SpellsTrace text ts = LinesSpell (trace_text_lines text) ts
+SpellsTrace text ts = LinesSpell (whole_text_lines text) ts
 
 -- ---- refusals
 
@@ -72,4 +72,4 @@ pub record LinesHaveFault (lines : List (List ℕ)) (r : TraceRefusal) : Type 0 
 
 -- the text has this refusal
 abbrev pub IsTraceRefusal : List ℕ → TraceRefusal → Type 0
-IsTraceRefusal text r = LinesHaveFault (trace_text_lines text) r
+IsTraceRefusal text r = LinesHaveFault (whole_text_lines text) r

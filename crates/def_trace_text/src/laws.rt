@@ -1,6 +1,7 @@
 // The laws of texts of trace messages.
 ghost use Rattle.def_trace_text.specs.TraceLaws.{LinesAreThere, TermTextIsThere, MessagesAreTuples};
 ghost use Rattle.def_trace_text.specs.TraceLaws.{DbgLineIsNoTerm, DbgLineHasParts};
+ghost use Rattle.def_trace_text.specs.TraceLaws.{WholeLinesAreAsMany, OtherLinesAreWhole};
 ghost use Rattle.def_trace_text.specs.TraceLaws.{SpelledTraceIsOne, SpelledTraceIsNotRefused, TraceRefusalIsOne};
 ghost use Rattle.def_trace_text.specs.TraceLaws.{TraceOrRefusal};
 
@@ -14,6 +15,13 @@ pub fn a_line_has_one_term()
 pub fn a_line_is_of_one_kind()
     ensures one { DbgLineIsNoTerm }
     ensures parts { DbgLineHasParts }
+{}
+
+/// A line of `dbg` and the lines that go on with it are one, with empty lines in their places, so that each line keeps
+/// its number; other lines stay as they are.
+pub fn a_whole_line_keeps_its_number()
+    ensures number { WholeLinesAreAsMany }
+    ensures others { OtherLinesAreWhole }
 {}
 
 /// The trace messages are the tuples of three elements or more with the atom `trace` and a pid first.
