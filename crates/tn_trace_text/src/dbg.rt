@@ -1,9 +1,9 @@
 // The text of the message that a line of `dbg` stands for.
 ghost use Rattle.std.specs.Prelude.{◌≡◌, ◌≤◌, length, take, drop, slice_index, None, false, IfOk};
 ghost use Rattle.std.specs.Option.{option_map};
-ghost use Rattle.def_trace_text.specs.DbgLines.{is_quote, quote_after, escapes_next, part_length, begins_with_byte};
-ghost use Rattle.def_trace_text.specs.DbgLines.{span_length, has_format, part_of_line, with_parts, is_dbg_line, dbg_text};
-ghost use Rattle.def_trace_text.specs.DbgLines.{dbg_formats, first_format};
+ghost use Rattle.def_trace_text.specs.DbgLines.{is_quote, quote_after, escapes_next, opens_term, closes_term, part_length};
+ghost use Rattle.def_trace_text.specs.DbgLines.{begins_with_byte, span_length, has_format, part_of_line, with_parts};
+ghost use Rattle.def_trace_text.specs.DbgLines.{dbg_formats, first_format, is_dbg_line, dbg_text};
 ghost use Rattle.tn_trace_text.specs.DbgFormats.{dbg_format_seen};
 
 use crate::line::without_blanks;
@@ -33,16 +33,36 @@ fn escapes_next(quote: Option<u8>, escaped: bool, b: u8) -> bool
     quote.is_some() && !escaped && b == b'\\'
 }
 
-/// How many bytes come before the first one of this kind that isn't between quotes.
+/// Whether a tuple or a list begins with a byte, which is not between quotes.
+fn opens_term(quote: Option<u8>, b: u8) -> bool
+    ensures { result ≡ opens_term quote b }
+{
+    quote.is_none() && (b == b'{' || b == b'[')
+}
+
+/// Whether a tuple or a list ends with a byte.
+fn closes_term(quote: Option<u8>, b: u8) -> bool
+    ensures { result ≡ closes_term quote b }
+{
+    quote.is_none() && (b == b'}' || b == b']')
+}
+
+/// How many bytes come before the first one of this kind that is neither between quotes nor in a tuple or list.
 fn part_length(end: u8, line: &[u8]) -> usize
-    ensures value { result ≡ part_length end None false line.now }
+    ensures value { result ≡ part_length end None false 0 line.now }
     ensures fits { result ≤ length line.now }
 {
     let mut quote = None;
     let mut escaped = false;
+    let mut depth: usize = 0;
     for (i, b) in line.iter().enumerate() {
-        if quote.is_none() && *b == end {
+        if quote.is_none() && depth == 0 && *b == end {
             return i;
+        }
+        if opens_term(quote, *b) {
+            depth += 1;
+        } else if closes_term(quote, *b) && depth > 0 {
+            depth -= 1;
         }
         let open = quote_after(quote, escaped, *b);
         escaped = escapes_next(quote, escaped, *b);
@@ -59,7 +79,7 @@ fn first_byte(bytes: &[u8]) -> u8
 }
 
 /// Whether the first byte is this one.
-fn begins_with(c: u8, line: &[u8]) -> bool
+pub(crate) fn begins_with(c: u8, line: &[u8]) -> bool
     ensures { result ≡ begins_with_byte c line.now }
 {
     !line.is_empty() && line[0] == c

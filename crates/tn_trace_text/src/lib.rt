@@ -11,6 +11,7 @@ mod line;
 mod message;
 mod reader;
 mod stack_trace;
+mod whole_line;
 
 pub use fault::TraceFault;
 pub use reader::read_trace;
