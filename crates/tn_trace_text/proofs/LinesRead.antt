@@ -10,13 +10,14 @@ use Rattle.tn_term.specs.Views.{tree_of}
 use Rattle.def_trace_text.specs.Lines.{trace_text_lines, is_passed_over, term_text}
 use Rattle.def_trace_text.specs.DbgLines.{is_dbg_line, further_text, with_further, whole_line, is_inside_after, whole_lines, whole_text_lines}
 use Rattle.def_trace_text.proofs.TextLines.{no_bytes}
+use Rattle.def_trace_text.proofs.WholeLines.{passed_alike}
 use Rattle.def_trace_text.proofs.MessageLines.{passed_more, message_more}
 use Rattle.def_trace_text.specs.TraceTexts.{IsTraceLine, lines_with_messages, LinesSpell, SpellsTrace, LineFault, no_message, HasFault, IsTraceRefusal}
 use Rattle.tn_text.specs.declared.fault.TextFault.{TextFault}
 use Rattle.tn_text.specs.declared.fault.TextFault.TheVariants as faults
 use Rattle.tn_text.specs.Answers.{IsTextRefusal}
 use Rattle.tn_trace_text.specs.Faults.{line_fault_seen, term_fault_at}
-use Rattle.tn_trace_text.specs.Readings.{IsTextFault, IsMessageOfLine, IsTextRead, IsDbgLineRead, IsLineRead, AddsLine, IsContentFault, IsTraceFault}
+use Rattle.tn_trace_text.specs.Readings.{IsTextFault, IsLineFault, IsMessageOfLine, IsTextRead, IsDbgLineRead, IsLineRead, AddsLine, IsContentFault, IsTraceFault}
 use Rattle.tn_trace_text.specs.declared.fault.TraceFault.{TraceFault}
 use Rattle.tn_trace_text.specs.declared.fault.TraceFault.TheVariants.{NoTerm, NoMessage, OutOfMemory}
 
@@ -99,6 +100,17 @@ add_none line terms e = record { message = []; spelled = passed_more line [] [] 
 
 pub add_one : {A : Type 0} (line : List ℕ) (t : Term A) (old new : List (Term A)) → is_passed_over line ≡ false → IsTraceLine line (tree_of t) → new ≡ old ++ t ∷ [] → AddsLine line old new
 add_one line t old new e s is = record { message = tree_of t ∷ []; spelled = message_more line [] (tree_of t) [] e s tt; added = ap (λ ts. map tree_of ts) is ∙ map-append tree_of old (t ∷ []) }
+
+-- of a line with those that go on with it
+pub add_further_none : {A : Type 0} (line : List ℕ) (next : List (List ℕ)) (terms : List (Term A)) → is_passed_over line ≡ true → AddsLine (with_further line next) terms terms
+add_further_none line next terms e = add_none (with_further line next) terms (passed_alike line next ∙ e)
+
+pub add_further_one :
+    {A : Type 0} (line : List ℕ) (next : List (List ℕ)) (t : Term A) (old new : List (Term A)) → is_passed_over line ≡ false → IsTraceLine (with_further line next) (tree_of t) → new ≡ old ++ t ∷ [] → AddsLine (with_further line next) old new
+add_further_one line next t old new e s is = add_one (with_further line next) t old new (passed_alike line next ∙ e) s is
+
+pub content_fault : (line : List ℕ) (next : List (List ℕ)) (n : ℕ) (f : TraceFault) → is_passed_over line ≡ false → IsLineFault (with_further line next) n f → IsContentFault (with_further line next) n f
+content_fault line next n f e h = (passed_alike line next ∙ e, h)
 
 -- the refusal of a text is its fault
 pub text_fault : (text : List ℕ) (n : ℕ) (fault : TextFault) → IsTextRefusal text fault → IsTextFault text n (term_fault_at n fault)

@@ -93,7 +93,30 @@ fn read_line<A: Allocator + Copy>(
 }
 
 /// Adds the trace message that a line stands for, which has this number and this text after it, unless the line is
-/// passed over or goes on with the line before it; inside of a message it may.
+/// passed over.
+fn add_message<A: Allocator + Copy>(
+    alloc: A,
+    line: &[u8],
+    after: &[u8],
+    number: usize,
+    messages: &mut Vec<Term<A>, A>,
+) -> Result<(), TraceFault>
+    ensures added { IfOk result (λ _. AddsLine (with_further line.now (trace_text_lines after.now))
+        messages.old.items messages.new.items) }
+    ensures refused { IfErr result (IsContentFault (with_further line.now (trace_text_lines after.now)) number) }
+{
+    if is_passed_over(line) {
+        return Ok(());
+    }
+    let message = read_line(alloc, line, after, number)?;
+    if messages.push(message).is_err() {
+        return Err(TraceFault::OutOfMemory);
+    }
+    Ok(())
+}
+
+/// Adds the trace message that a line stands for, unless the line is passed over or goes on with the line before it;
+/// inside of a message it may.
 fn add_line<A: Allocator + Copy>(
     alloc: A,
     inside: bool,
@@ -106,14 +129,10 @@ fn add_line<A: Allocator + Copy>(
         messages.old.items messages.new.items) }
     ensures refused { IfErr result (IsContentFault (whole_line inside line.now (trace_text_lines after.now)) number) }
 {
-    if inside && is_further(line) || is_passed_over(line) {
+    if inside && is_further(line) {
         return Ok(());
     }
-    let message = read_line(alloc, line, after, number)?;
-    if messages.push(message).is_err() {
-        return Err(TraceFault::OutOfMemory);
-    }
-    Ok(())
+    add_message(alloc, line, after, number, messages)
 }
 
 /// The trace messages that a text spells, in their order. A line is the text of one, with a full stop at its end or

@@ -1,4 +1,4 @@
-use Rattle.std.proofs.Common.{◌∙◌, false, map, sym, subst, arith}
+use Rattle.std.proofs.Common.{◌∙◌, ◌+◌, false, map, sym, subst, arith}
 use Rattle.std.proofs.lemmas.Result.{err_from_is_err_and}
 use Rattle.tn_term.specs.Views.{tree_of}
 use Rattle.tn_trace_text.proofs.LinesRead.{ReadTo, read_start, read_more, read_end, read_refused}
@@ -23,8 +23,9 @@ loop-rest-preserved g c =
     let within = c.loop-rest.invariant.within in
     record {
       within = omega (arith, shorter, within);
-      read = read_more {A = g.row.A.Denot} c.args.text.now c.loop-rest.rest.now c.first_line.result.0.now c.first_line.result.1.now c.loop-rest.inside c.loop-rest.number c.loop-rest.messages.items c.add_line.new.messages.items c.loop-rest.invariant.read
-          c.first_line.ensures.cut c.in_ok-add_line.ensures.added;
+      read = subst (λ i. ReadTo c.args.text.now c.first_line.result.1.now i (c.loop-rest.number + 1) (map (tree_of {A = g.row.A.Denot}) c.add_line.new.messages.items)) (sym c.is_inside_after-inside.ensures)
+          (read_more {A = g.row.A.Denot} c.args.text.now c.loop-rest.rest.now c.first_line.result.0.now c.first_line.result.1.now c.loop-rest.inside c.loop-rest.number c.loop-rest.messages.items c.add_line.new.messages.items c.loop-rest.invariant.read
+          c.first_line.ensures.cut c.in_ok-add_line.ensures.added);
     }
 
 pub returns : goal.returns
