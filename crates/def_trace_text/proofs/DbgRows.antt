@@ -1,5 +1,5 @@
 -- Rows: lines as `dbg` of OTP 27 printed them, and the texts of their messages.
-use Rattle.std.proofs.Common.{◌≡◌, List, ℕ, [], ◌∷◌, true, false, codes, refl}
+use Rattle.std.proofs.Common.{◌≡◌, List, ℕ, [], ◌∷◌, codes, refl}
 use Rattle.def_trace_text.specs.DbgLines.{whole_text_lines, trace_line_text}
 
 -- the text of the message that a line stands for

@@ -1,5 +1,5 @@
 -- A line of `dbg` spells no term.
-use Rattle.std.proofs.Common.{◌≡◌, ◌∙◌, inl, inr, ℕ, ◌-◌, suc, ◌==◌, Bool, true, false, List, [], ◌∷◌, ◌++◌, length, take, drop, refl, ap, sym, subst, arith, rules}
+use Rattle.std.proofs.Common.{◌≡◌, inl, inr, ℕ, ◌-◌, suc, ◌==◌, Bool, true, false, List, [], ◌∷◌, ◌++◌, length, take, refl, ap, sym, subst, arith, rules}
 use Rattle.std.specs.Prelude.{slice_index, if◌then◌else◌}
 use Rattle.def_term.specs.Tree.{Tree, int, atom, pid, tuple, list}
 use Rattle.def_text.specs.Tokens as text

@@ -1,9 +1,9 @@
 -- The lines of a text, with the messages of `dbg` in one line each.
-use Rattle.std.proofs.Common.{◌≡◌, ◌∙◌, ℕ, suc, ◌==◌, Bool, true, false, ◌&&◌, List, [], ◌∷◌, ◌++◌, length, refl, ap, sym, subst, rules}
+use Rattle.std.proofs.Common.{◌≡◌, ◌∙◌, ℕ, suc, ◌==◌, Bool, true, false, List, [], ◌∷◌, ◌++◌, length, refl, ap, sym, subst, rules}
 use Rattle.std.specs.List.{All}
 use Rattle.std.proofs.lemmas.List.Elements.{All-head, All-tail}
 use Rattle.def_trace_text.specs.Lines.{trace_text_lines, is_passed_over}
-use Rattle.def_trace_text.specs.DbgLines.{is_dbg_line, is_further, further_text, with_further, whole_line, is_inside_after, whole_lines, whole_text_lines}
+use Rattle.def_trace_text.specs.DbgLines.{is_dbg_line, further_text, with_further, is_inside_after, whole_lines, whole_text_lines}
 
 -- ---- one line
 
@@ -11,13 +11,6 @@ use Rattle.def_trace_text.specs.DbgLines.{is_dbg_line, is_further, further_text,
 dbg_stays : (line more : List ℕ) → is_dbg_line line ≡ true → is_dbg_line (line ++ more) ≡ true
 dbg_stays [] more e = absurd (cc)
 dbg_stays (b ∷ bs) more e = e
-
-pub same_kind : (line : List ℕ) (next : List (List ℕ)) → is_dbg_line (with_further line next) ≡ is_dbg_line line
-same_kind line next = by_kind (is_dbg_line line) refl
-  where
-    by_kind : (c : Bool) → is_dbg_line line ≡ c → is_dbg_line (with_further line next) ≡ is_dbg_line line
-    by_kind true e = rw e (dbg_stays line (further_text next) e)
-    by_kind false e = rw e e
 
 some_bytes : (n : ℕ) → (0 == suc n) ≡ false
 some_bytes n = search rules

@@ -1,6 +1,6 @@
 -- The lines that `dbg` prints of trace messages ("tracer/0" of the module `dbg` of OTP 27's runtime_tools; its `dhandler1/3`, `ffunc/2` and `ftup/4` have the formats), and the text of the message that such a line stands for. `~p` breaks a long term into several lines, each of which but the first begins with a blank.
 -- Depends on the digits of written terms, and on the lines of a text.
-use Rattle.std.specs.Prelude.{ℕ, ◌+◌, ◌-◌, ◌==◌, Bool, true, false, not, ◌&&◌, ◌||◌, List, [], ◌∷◌, ◌++◌, length, take, drop, slice_index, flat_map, Option, Some, None, if◌then◌else◌, codes}
+use Rattle.std.specs.Prelude.{ℕ, ◌+◌, ◌-◌, ◌==◌, Bool, false, not, ◌&&◌, ◌||◌, List, [], ◌∷◌, ◌++◌, length, take, drop, slice_index, flat_map, Option, Some, None, if◌then◌else◌, codes}
 use Rattle.std.specs.Option.{is_none}
 use Rattle.def_term.specs.Text.{is_digit}
 use Rattle.def_trace_text.specs.Lines.{trace_text_lines, is_passed_over, without_blanks, term_text}

@@ -1,14 +1,14 @@
 -- A text that is read up to a line.
-use Rattle.std.proofs.Common.{◌≡◌, ◌∙◌, ℕ, ◌+◌, ◌==◌, Bool, true, false, List, [], ◌∷◌, ◌++◌, length, map, None, Some, Result, Ok, Err, refl, ap, sym, subst, arith, append_assoc, append-nil, length-append}
+use Rattle.std.proofs.Common.{◌≡◌, ◌∙◌, ℕ, ◌+◌, ◌==◌, Bool, true, false, List, [], ◌∷◌, ◌++◌, length, map, Result, Ok, Err, refl, ap, sym, subst, arith, append_assoc, append-nil, length-append}
 use Rattle.std.proofs.lemmas.List.{map-append}
-use Rattle.std.specs.List.{AllZip, filter}
+use Rattle.std.specs.List.{AllZip}
 use Rattle.std.proofs.lemmas.List.Elements.{filter-append}
 use Rattle.def_term.specs.Tree.{Tree}
 use Rattle.def_text.specs.Spelling.{Spells}
 use Rattle.tn_term.specs.declared.term.Term.{Term}
 use Rattle.tn_term.specs.Views.{tree_of}
-use Rattle.def_trace_text.specs.Lines.{trace_text_lines, is_passed_over, term_text}
-use Rattle.def_trace_text.specs.DbgLines.{is_dbg_line, further_text, with_further, whole_line, is_inside_after, whole_lines, whole_text_lines}
+use Rattle.def_trace_text.specs.Lines.{trace_text_lines, is_passed_over}
+use Rattle.def_trace_text.specs.DbgLines.{with_further, whole_line, is_inside_after, whole_lines, whole_text_lines}
 use Rattle.def_trace_text.proofs.TextLines.{no_bytes}
 use Rattle.def_trace_text.proofs.WholeLines.{passed_alike}
 use Rattle.def_trace_text.proofs.MessageLines.{passed_more, message_more}
@@ -16,8 +16,8 @@ use Rattle.def_trace_text.specs.TraceTexts.{IsTraceLine, lines_with_messages, Li
 use Rattle.tn_text.specs.declared.fault.TextFault.{TextFault}
 use Rattle.tn_text.specs.declared.fault.TextFault.TheVariants as faults
 use Rattle.tn_text.specs.Answers.{IsTextRefusal}
-use Rattle.tn_trace_text.specs.Faults.{line_fault_seen, term_fault_at}
-use Rattle.tn_trace_text.specs.Readings.{IsTextFault, IsLineFault, IsMessageOfLine, IsTextRead, IsDbgLineRead, IsLineRead, AddsLine, IsContentFault, IsTraceFault}
+use Rattle.tn_trace_text.specs.Faults.{term_fault_at}
+use Rattle.tn_trace_text.specs.Readings.{IsTextFault, IsMessageOfLine, IsTextRead, AddsLine, IsContentFault, IsTraceFault}
 use Rattle.tn_trace_text.specs.declared.fault.TraceFault.{TraceFault}
 use Rattle.tn_trace_text.specs.declared.fault.TraceFault.TheVariants.{NoTerm, NoMessage, OutOfMemory}
 
@@ -102,15 +102,9 @@ pub add_one : {A : Type 0} (line : List ℕ) (t : Term A) (old new : List (Term 
 add_one line t old new e s is = record { message = tree_of t ∷ []; spelled = message_more line [] (tree_of t) [] e s tt; added = ap (λ ts. map tree_of ts) is ∙ map-append tree_of old (t ∷ []) }
 
 -- of a line with those that go on with it
-pub add_further_none : {A : Type 0} (line : List ℕ) (next : List (List ℕ)) (terms : List (Term A)) → is_passed_over line ≡ true → AddsLine (with_further line next) terms terms
-add_further_none line next terms e = add_none (with_further line next) terms (passed_alike line next ∙ e)
-
 pub add_further_one :
     {A : Type 0} (line : List ℕ) (next : List (List ℕ)) (t : Term A) (old new : List (Term A)) → is_passed_over line ≡ false → IsTraceLine (with_further line next) (tree_of t) → new ≡ old ++ t ∷ [] → AddsLine (with_further line next) old new
 add_further_one line next t old new e s is = add_one (with_further line next) t old new (passed_alike line next ∙ e) s is
-
-pub content_fault : (line : List ℕ) (next : List (List ℕ)) (n : ℕ) (f : TraceFault) → is_passed_over line ≡ false → IsLineFault (with_further line next) n f → IsContentFault (with_further line next) n f
-content_fault line next n f e h = (passed_alike line next ∙ e, h)
 
 -- the refusal of a text is its fault
 pub text_fault : (text : List ℕ) (n : ℕ) (fault : TextFault) → IsTextRefusal text fault → IsTextFault text n (term_fault_at n fault)
@@ -126,11 +120,3 @@ message_text_read text u n (Ok t) s h = record { term = u; spelled = s; is_messa
 message_text_read text u n (Err (NoTerm m fault)) s h = absurd h
 message_text_read text u n (Err (NoMessage m)) s h = (h.0, (u, s, h.1))
 message_text_read text u n (Err OutOfMemory) s h = tt
-
--- a line of `dbg`
-pub dbg_line_read : {A : Type 0} (line : List ℕ) (n : ℕ) (r : Result (Term A) TraceFault) → is_dbg_line line ≡ true → IsDbgLineRead line n r → IsLineRead line n r
-dbg_line_read line n r e h = rw e h
-
--- a line of the other kind
-pub term_line_read : {A : Type 0} (line : List ℕ) (n : ℕ) (r : Result (Term A) TraceFault) → is_dbg_line line ≡ false → IsTextRead (term_text line) n r → IsLineRead line n r
-term_line_read line n r e h = rw e h

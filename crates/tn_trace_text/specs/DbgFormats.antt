@@ -1,6 +1,5 @@
 -- The code's formats of `dbg`.
 -- Depends on the formats.
-use Rattle.std.specs.Prelude.{ℕ, List}
 use Rattle.def_trace_text.specs.DbgLines.{DbgFormat}
 use Rattle.tn_trace_text.specs.declared.dbg.DbgFormat as code
 
