@@ -5,7 +5,7 @@ use Rattle.std.specs.List.{All, list_all}
 use Rattle.std.proofs.lemmas.List.{take-append-drop}
 use Rattle.std.proofs.lemmas.List.Elements.{All-nil, All-cons}
 use Rattle.def_term.specs.Text.{is_digit}
-use Rattle.def_trace_text.specs.DbgLines.{DbgFormat, dbg_formats, begins_with_byte, span_length, has_format, part_of_line, with_parts}
+use Rattle.def_trace_text.specs.DbgFormats.{DbgFormat, dbg_formats, begins_with_byte, span_length, has_format, part_of_line, with_parts}
 use Rattle.def_trace_text.proofs.TextLines.{no_bytes}
 
 -- no digit of the others is this byte

@@ -5,7 +5,8 @@ use Rattle.std.specs.List.{All}
 use Rattle.def_term.specs.Tree.{Tree}
 use Rattle.def_text.specs.Spelling.{Spells}
 use Rattle.def_trace_text.specs.Lines.{AreTextLines, trace_text_lines, IsTermText, term_text}
-use Rattle.def_trace_text.specs.DbgLines.{dbg_formats, has_format, with_parts, is_dbg_line, whole_text_lines}
+use Rattle.def_trace_text.specs.DbgFormats.{dbg_formats, has_format, with_parts}
+use Rattle.def_trace_text.specs.DbgLines.{is_dbg_line, whole_text_lines}
 use Rattle.def_trace_text.specs.Messages.{IsTraceMessage, is_trace_message}
 use Rattle.def_trace_text.specs.TraceTexts.{SpellsTrace, TraceRefusal, IsTraceRefusal}
 

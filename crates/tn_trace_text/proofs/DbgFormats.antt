@@ -1,7 +1,7 @@
 -- The first format that a line has.
 use Rattle.std.proofs.Common.{◌≡◌, ◌∙◌, ℕ, ◌+◌, ◌<◌, true, false, List, ◌∷◌, length, slice_index_or, drop, map, Option, Some, refl, ap, sym}
 use Rattle.std.proofs.lemmas.List.{drop_more}
-use Rattle.def_trace_text.specs.DbgLines.{DbgFormat, has_format, first_format}
+use Rattle.def_trace_text.specs.DbgFormats.{DbgFormat, has_format, first_format}
 use Rattle.tn_trace_text.specs.DbgFormats.{dbg_format_seen}
 use Rattle.tn_trace_text.specs.declared.dbg.DbgFormat as code
 

@@ -1,6 +1,6 @@
 -- The code's formats of `dbg`.
 -- Depends on the formats.
-use Rattle.def_trace_text.specs.DbgLines.{DbgFormat}
+use Rattle.def_trace_text.specs.DbgFormats.{DbgFormat}
 use Rattle.tn_trace_text.specs.declared.dbg.DbgFormat as code
 
 -- the format that it is

@@ -1,5 +1,5 @@
 use Rattle.std.proofs.Common.{◌∙◌, sym, arith}
-use Rattle.def_trace_text.specs.DbgLines.{dbg_formats, first_format}
+use Rattle.def_trace_text.specs.DbgFormats.{dbg_formats, first_format}
 use Rattle.tn_trace_text.proofs.DbgFormats.{format_found, format_later}
 use Rattle.tn_trace_text.proofs.dbg.format_of.Goals as goal
 

@@ -1,5 +1,5 @@
 use Rattle.std.proofs.Common.{◌≡◌, drop, map}
-use Rattle.def_trace_text.specs.DbgLines.{first_format, dbg_formats}
+use Rattle.def_trace_text.specs.DbgFormats.{first_format, dbg_formats}
 use Rattle.tn_trace_text.specs.DbgFormats.{dbg_format_seen}
 use Rattle.tn_trace_text.proofs.dbg.format_of.Given as goal
 

@@ -1,5 +1,5 @@
 use Rattle.std.proofs.Common.{◌≡◌, length}
-use Rattle.def_trace_text.specs.DbgLines.{has_format}
+use Rattle.def_trace_text.specs.DbgFormats.{has_format}
 use Rattle.tn_trace_text.proofs.dbg.has_format.Given as goal
 
 -- the rest of the line has the rest of the format where the line has the format

@@ -1,5 +1,5 @@
 use Rattle.std.proofs.Common.{◌≡◌, ◌+◌, ◌≤◌, drop, None, false}
-use Rattle.def_trace_text.specs.DbgLines.{part_length}
+use Rattle.def_trace_text.specs.DbgFormats.{part_length}
 use Rattle.tn_trace_text.proofs.dbg.part_length.Given as goal
 
 -- the bytes before this one are in the part

@@ -1,5 +1,5 @@
 use Rattle.std.proofs.Common.{◌≡◌, length}
-use Rattle.def_trace_text.specs.DbgLines.{part_of_line}
+use Rattle.def_trace_text.specs.DbgFormats.{part_of_line}
 use Rattle.tn_trace_text.proofs.dbg.part_of_line.Given as goal
 
 -- the part is that of the rest of the line

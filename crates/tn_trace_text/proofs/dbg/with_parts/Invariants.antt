@@ -1,5 +1,5 @@
 use Rattle.std.proofs.Common.{◌≡◌, ◌++◌, drop}
-use Rattle.def_trace_text.specs.DbgLines.{with_parts}
+use Rattle.def_trace_text.specs.DbgFormats.{with_parts}
 use Rattle.tn_trace_text.proofs.dbg.with_parts.Given as goal
 
 -- what is still to come
