@@ -1,3 +1,4 @@
+pub mod WrittenParts
 pub mod WholeLines
 pub mod DbgParts
 pub mod DbgTerms
