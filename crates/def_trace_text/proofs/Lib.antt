@@ -1,3 +1,4 @@
+pub mod DbgTexts
 pub mod WrittenParts
 pub mod WholeLines
 pub mod DbgParts

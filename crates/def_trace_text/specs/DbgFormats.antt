@@ -1,8 +1,9 @@
 -- The formats in which `dbg` prints trace messages ("tracer/0" of the module `dbg` of OTP 27's runtime_tools: `dhandler1/3`, `ffunc/2` and `ftup/4`), and the parts of a line of such a format.
--- Depends on the digits of written terms.
+-- Depends on written terms.
 use Rattle.std.specs.Prelude.{ℕ, ◌+◌, ◌-◌, ◌==◌, Bool, false, not, ◌&&◌, ◌||◌, List, [], ◌∷◌, length, take, drop, slice_index, flat_map, Option, Some, None, if◌then◌else◌, codes}
 use Rattle.std.specs.Option.{is_none}
-use Rattle.def_term.specs.Text.{is_digit}
+use Rattle.def_term.specs.Tree.{Trees}
+use Rattle.def_term.specs.Text.{is_digit, comma_list}
 
 -- ---- parts of a line
 
@@ -95,3 +96,7 @@ first_format (f ∷ fs) line = if has_format f.printed line then Some f else fir
 abbrev pub text_by_format : Option DbgFormat → List ℕ → List ℕ
 text_by_format None line = line
 text_by_format (Some f) line = with_parts f.message f.printed line
+
+-- a format, with the written terms in the places of their digits, a comma between any two of one place
+abbrev pub with_term_texts : List ℕ → (ℕ → Trees) → List ℕ
+with_term_texts text terms = flat_map (λ b. if is_digit b then comma_list (terms b) else b ∷ []) text

@@ -2,10 +2,11 @@
 -- Depends on their lines, on the lines of `dbg`, and on what they spell and how they are refused.
 use Rattle.std.specs.Prelude.{◌≡◌, ◌↔◌, ◌⊎◌, ℕ, true, false, List, length}
 use Rattle.std.specs.List.{All}
-use Rattle.def_term.specs.Tree.{Tree}
+use Rattle.def_term.specs.Tree.{Tree, Trees}
 use Rattle.def_text.specs.Spelling.{Spells}
+use Rattle.def_text.specs.Writable.{are_writable}
 use Rattle.def_trace_text.specs.Lines.{AreTextLines, trace_text_lines, IsTermText, term_text}
-use Rattle.def_trace_text.specs.DbgFormats.{dbg_formats, has_format, with_parts}
+use Rattle.def_trace_text.specs.DbgFormats.{dbg_formats, has_format, with_parts, with_term_texts}
 use Rattle.def_trace_text.specs.DbgLines.{is_dbg_line, whole_text_lines}
 use Rattle.def_trace_text.specs.Messages.{IsTraceMessage, is_trace_message}
 use Rattle.def_trace_text.specs.TraceTexts.{SpellsTrace, TraceRefusal, IsTraceRefusal}
@@ -27,6 +28,12 @@ DbgLineIsNoTerm = (line : List ℕ) (t : Tree) → is_dbg_line line ≡ true →
 -- a line that has a format of `dbg` is what `dbg` prints by it, with the line's parts in the places of the digits
 abbrev pub DbgLineHasParts : Type 0
 DbgLineHasParts = All (λ f. (line : List ℕ) → has_format f.printed line ≡ true → with_parts f.printed f.printed line ≡ line) dbg_formats
+
+-- what `dbg` prints by a format of written terms has the format, and by it stands for the text of the message that has these terms
+abbrev pub DbgFormatIsRead : Type 0
+DbgFormatIsRead =
+    (terms : ℕ → Trees) → ((digit : ℕ) → are_writable (terms digit) ≡ true)
+    → All (λ f. (has_format f.printed (with_term_texts f.printed terms) ≡ true) × (with_parts f.message f.printed (with_term_texts f.printed terms) ≡ with_term_texts f.message terms)) dbg_formats
 
 -- there are as many of them as lines, so that their numbers are those of the lines
 abbrev pub WholeLinesAreAsMany : Type 0

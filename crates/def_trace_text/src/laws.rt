@@ -1,6 +1,6 @@
 // The laws of texts of trace messages.
 ghost use Rattle.def_trace_text.specs.TraceLaws.{LinesAreThere, TermTextIsThere, MessagesAreTuples};
-ghost use Rattle.def_trace_text.specs.TraceLaws.{DbgLineIsNoTerm, DbgLineHasParts};
+ghost use Rattle.def_trace_text.specs.TraceLaws.{DbgLineIsNoTerm, DbgLineHasParts, DbgFormatIsRead};
 ghost use Rattle.def_trace_text.specs.TraceLaws.{WholeLinesAreAsMany, OtherLinesAreWhole};
 ghost use Rattle.def_trace_text.specs.TraceLaws.{SpelledTraceIsOne, SpelledTraceIsNotRefused, TraceRefusalIsOne};
 ghost use Rattle.def_trace_text.specs.TraceLaws.{TraceOrRefusal};
@@ -11,10 +11,16 @@ pub fn a_line_has_one_term()
     ensures term { TermTextIsThere }
 {}
 
-/// A line of `dbg` spells no term, and it is what `dbg` prints by its format, with its parts.
+/// A line of `dbg` spells no term, so that no line is of both kinds.
 pub fn a_line_is_of_one_kind()
-    ensures one { DbgLineIsNoTerm }
+    ensures { DbgLineIsNoTerm }
+{}
+
+/// A line that has a format of `dbg` is what `dbg` prints by it, with its parts; and what `dbg` prints by a format of
+/// written terms has the format, and stands for the text of the message with these terms.
+pub fn a_line_of_dbg_has_its_terms()
     ensures parts { DbgLineHasParts }
+    ensures terms { DbgFormatIsRead }
 {}
 
 /// A line of `dbg` and the lines that go on with it are one, with empty lines in their places, so that each line keeps

@@ -9,6 +9,6 @@
 mod laws;
 
 pub use laws::{
-    a_line_has_one_term, a_line_is_of_one_kind, a_text_spells_one_trace, a_whole_line_keeps_its_number,
-    the_messages_are_tuples,
+    a_line_has_one_term, a_line_is_of_one_kind, a_line_of_dbg_has_its_terms,
+    a_text_spells_one_trace, a_whole_line_keeps_its_number, the_messages_are_tuples,
 };
