@@ -1,9 +1,10 @@
-//! Texts of trace messages, one message on a line, as a running node prints them. A stack trace in a message is the
-//! empty list.
+//! Texts of trace messages, as terms, one on a line, or as `dbg` prints them. A stack trace in a message is the empty
+//! list.
 //!
 //! Depends on `def_term` and `def_text`. Promises, as laws: a text is its lines with their ends, a line is the text of
-//! a term, a full stop or none, and blanks, and a trace message is a tuple with `trace` and a pid first; a text spells
-//! exactly one list of trace messages or is refused in exactly one way, and never both. There is no code.
+//! a term, a full stop or none, and blanks, and a trace message is a tuple with `trace` and a pid first; no line is
+//! both of a term and of `dbg`, and what `dbg` prints by a format of written terms has the format and those terms; a
+//! text spells exactly one list of trace messages or is refused in exactly one way, and never both. There is no code.
 #![tactic(auto)]
 
 mod laws;

@@ -2,8 +2,8 @@
 ghost use Rattle.std.specs.Prelude.{◌≡◌, ◌≤◌, length, take, drop, slice_index, None, false, IfOk};
 ghost use Rattle.std.specs.Option.{option_map};
 ghost use Rattle.def_trace_text.specs.DbgFormats.{is_quote, quote_after, escapes_next, opens_term, closes_term};
-ghost use Rattle.def_trace_text.specs.DbgFormats.{part_length, begins_with_byte, span_length, has_format, part_of_line, with_parts};
-ghost use Rattle.def_trace_text.specs.DbgFormats.{dbg_formats, first_format};
+ghost use Rattle.def_trace_text.specs.DbgFormats.{part_length, begins_with_byte, span_length, has_format};
+ghost use Rattle.def_trace_text.specs.DbgFormats.{part_of_line, with_parts, dbg_formats, first_format};
 ghost use Rattle.def_trace_text.specs.DbgLines.{is_dbg_line, dbg_text};
 ghost use Rattle.tn_trace_text.specs.DbgFormats.{dbg_format_seen};
 
