@@ -1,7 +1,6 @@
 -- A written term is a whole part of a line of `dbg`.
-use Rattle.std.proofs.Common.{◌≡◌, ◌∙◌, ◌⊎◌, inl, inr, ℕ, ℤ, suc, pos, negsuc, ◌+◌, ◌-◌, ◌<◌, ◌^◌, ◌==◌, Bool, true, false, not, ◌&&◌, ◌||◌, List, [], ◌∷◌, ◌++◌, length, decimal, flat_map, None, Some, refl, ap, sym, subst, rules, arith, append_assoc, length-append}
+use Rattle.std.proofs.Common.{◌≡◌, ◌∙◌, ◌⊎◌, inl, inr, ℕ, ℤ, suc, pos, negsuc, ◌+◌, ◌-◌, ◌<◌, ◌^◌, ◌==◌, Bool, true, false, not, ◌&&◌, ◌||◌, List, [], ◌∷◌, ◌++◌, length, decimal, flat_map, None, Some, refl, ap, sym, rules, arith, append_assoc, length-append}
 use Rattle.std.proofs.lemmas.Bool.{and_parts, or_parts, cond_both, ltb-true, ne_eqb, both_ways}
-use Rattle.std.specs.Prelude.{if◌then◌else◌}
 use Rattle.std.proofs.lemmas.Fmt.{decimal_is_IsNumeral}
 use Rattle.def_term.specs.Tree.{Tree, int, atom, pid, tuple, list, Trees, none, more}
 use Rattle.def_term.specs.Text.{is_digit, is_lower, is_name, is_name_byte, are_name_bytes, is_written_bare, escape, w, comma_list, each_after_comma}
@@ -9,7 +8,7 @@ use Rattle.def_text.specs.Tokens.{all_are}
 use Rattle.def_text.specs.Writable.{is_writable, are_writable}
 use Rattle.def_text.proofs.Numbers.{own}
 use Rattle.def_text.proofs.TokenSound.{same_names}
-use Rattle.def_trace_text.specs.DbgFormats.{is_quote, part_length}
+use Rattle.def_trace_text.specs.DbgFormats.{part_length}
 
 -- a byte that ends parts, and is in no term outside of quotes
 abbrev pub ends_part : ℕ → Bool
