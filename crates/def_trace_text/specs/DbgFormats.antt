@@ -1,6 +1,6 @@
 -- The formats in which `dbg` prints trace messages ("tracer/0" of the module `dbg` of OTP 27's runtime_tools: `dhandler1/3`, `ffunc/2` and `ftup/4`), and the parts of a line of such a format.
 -- Depends on written terms.
-use Rattle.std.specs.Prelude.{ℕ, ◌+◌, ◌-◌, ◌==◌, Bool, false, not, ◌&&◌, ◌||◌, List, [], ◌∷◌, length, take, drop, slice_index, flat_map, Option, Some, None, if◌then◌else◌, codes}
+use Rattle.std.specs.Prelude.{ℕ, ◌+◌, ◌-◌, ◌==◌, Bool, false, not, ◌&&◌, ◌||◌, List, [], ◌∷◌, ◌++◌, length, take, drop, slice_index, flat_map, Option, Some, None, if◌then◌else◌, codes}
 use Rattle.std.specs.Option.{is_none}
 use Rattle.def_term.specs.Tree.{Trees}
 use Rattle.def_term.specs.Text.{is_digit, comma_list}
@@ -71,9 +71,9 @@ pub record DbgFormat : Type 0 where
   pub printed : List ℕ
   pub message : List ℕ
 
--- the formats of `dbg`, with `ffunc/2` and `ftup/4` written out; a line has the first one that it fits. It prints no message of a match specification with a send or a receive
-abbrev pub dbg_formats : List DbgFormat
-dbg_formats =
+-- the formats with a word or a sign of `dbg`'s own after the pid, with `ffunc/2` written out. It prints no message of a match specification with a receive or a send
+abbrev pub word_formats : List DbgFormat
+word_formats =
     record { printed = codes "(1) << 2"; message = codes "{trace,1,'receive',2}" }
     ∷ record { printed = codes "(1) call 2:3/4 (5)"; message = codes "{trace,1,call,{2,3,4},5}" }
     ∷ record { printed = codes "(1) call 2:3/4"; message = codes "{trace,1,call,{2,3,4}}" }
@@ -82,10 +82,28 @@ dbg_formats =
     ∷ record { printed = codes "(1) returned from 2:3/4 -> 5"; message = codes "{trace,1,return_from,{2,3,4},5}" }
     ∷ record { printed = codes "(1) returning to 2:3/4"; message = codes "{trace,1,return_to,{2,3,4}}" }
     ∷ record { printed = codes "(1) spawn 2 as 3:4(5)"; message = codes "{trace,1,spawn,2,{3,4,[5]}}" }
-    ∷ record { printed = codes "(1) 2 ! 3"; message = codes "{trace,1,send,3,2}" }
-    ∷ record { printed = codes "(1) 2 3 4"; message = codes "{trace,1,2,3,4}" }
-    ∷ record { printed = codes "(1) 2 3"; message = codes "{trace,1,2,3}" }
     ∷ []
+
+-- the format of a send; the receiver is first
+abbrev pub send_format : DbgFormat
+send_format = record { printed = codes "(1) 2 ! 3"; message = codes "{trace,1,send,3,2}" }
+
+-- the formats of all other kinds, with `ftup/4` written out: the kind, and two terms or one
+abbrev pub pair_format : DbgFormat
+pair_format = record { printed = codes "(1) 2 3 4"; message = codes "{trace,1,2,3,4}" }
+
+abbrev pub single_format : DbgFormat
+single_format = record { printed = codes "(1) 2 3"; message = codes "{trace,1,2,3}" }
+
+-- the formats of `dbg`; a line has the first one that it fits
+abbrev pub dbg_formats : List DbgFormat
+dbg_formats = word_formats ++ send_format ∷ pair_format ∷ single_format ∷ []
+
+-- the other kinds of trace messages that a session sends
+abbrev pub other_kinds : List (List ℕ)
+other_kinds =
+    codes "exception_from" ∷ codes "send_to_non_existing_process" ∷ codes "spawned" ∷ codes "exit" ∷ codes "link" ∷ codes "unlink"
+    ∷ codes "getting_linked" ∷ codes "getting_unlinked" ∷ []
 
 -- the first of these formats that the line has
 abbrev pub first_format : List DbgFormat → List ℕ → Option DbgFormat
