@@ -11,19 +11,19 @@ use Rattle.def_text.specs.Writable.{are_writable}
 use Rattle.def_trace_text.specs.DbgFormats.{DbgFormat, dbg_formats, begins_with_byte, part_length, span_length, has_format, part_of_line, with_parts, with_term_texts}
 use Rattle.def_trace_text.proofs.WrittenParts.{ends_part, written_parts}
 
-abbrev AreWritable : (ℕ → Trees) → Type 0
+abbrev pub AreWritable : (ℕ → Trees) → Type 0
 AreWritable terms = (digit : ℕ) → are_writable (terms digit) ≡ true
 
 -- what comes after a part is its end: the format goes on with a byte that ends parts, or it ends
-abbrev is_cut : List ℕ → Bool
+abbrev pub is_cut : List ℕ → Bool
 is_cut others = ends_part (slice_index others 0) && not (is_digit (slice_index others 0))
 
 -- after each digit is the end of its part
-abbrev has_cuts : List ℕ → Bool
+abbrev pub has_cuts : List ℕ → Bool
 has_cuts [] = true
 has_cuts (c ∷ others) = (not (is_digit c) || is_cut others) && has_cuts others
 
-same_byte : (c : ℕ) → (c == c) ≡ true
+pub same_byte : (c : ℕ) → (c == c) ≡ true
 same_byte c = search rules
 
 -- no byte of the rest is in the part
@@ -36,13 +36,13 @@ none_more (e ∷ others) terms h =
 
 -- ---- one byte of a format
 
-with_digit : (c : ℕ) (others : List ℕ) (terms : ℕ → Trees) → is_digit c ≡ true → with_term_texts (c ∷ others) terms ≡ comma_list (terms c) ++ with_term_texts others terms
+pub with_digit : (c : ℕ) (others : List ℕ) (terms : ℕ → Trees) → is_digit c ≡ true → with_term_texts (c ∷ others) terms ≡ comma_list (terms c) ++ with_term_texts others terms
 with_digit c others terms e = rw e refl
 
-with_literal : (c : ℕ) (others : List ℕ) (terms : ℕ → Trees) → is_digit c ≡ false → with_term_texts (c ∷ others) terms ≡ c ∷ with_term_texts others terms
+pub with_literal : (c : ℕ) (others : List ℕ) (terms : ℕ → Trees) → is_digit c ≡ false → with_term_texts (c ∷ others) terms ≡ c ∷ with_term_texts others terms
 with_literal c others terms e = rw e refl
 
-span_is_part : (c : ℕ) (others line : List ℕ) → is_digit c ≡ true → span_length c others line ≡ part_length (slice_index others 0) None false 0 line
+pub span_is_part : (c : ℕ) (others line : List ℕ) → is_digit c ≡ true → span_length c others line ≡ part_length (slice_index others 0) None false 0 line
 span_is_part c others line e = rw e refl
 
 span_is_one : (c : ℕ) (others line : List ℕ) → is_digit c ≡ false → span_length c others line ≡ 1
@@ -57,7 +57,7 @@ span_of_digit c others terms e cut ok =
     let span = span_is_part c others (comma_list (terms c) ++ with_term_texts others terms) e in
     omega (arith, part, none, span)
 
-cut_there : (digit cut : Bool) → not digit || cut ≡ true → digit ≡ true → cut ≡ true
+pub cut_there : (digit cut : Bool) → not digit || cut ≡ true → digit ≡ true → cut ≡ true
 cut_there digit cut h e = search rules
 
 -- what is left after it
@@ -80,7 +80,7 @@ begins false c others terms e = rw (e, same_byte c) refl
 both_true : (a b : Bool) → a ≡ true → b ≡ true → a && b ≡ true
 both_true a b h k = rw (h, k) refl
 
-has_its_format : (format : List ℕ) (terms : ℕ → Trees) → has_cuts format ≡ true → AreWritable terms → has_format format (with_term_texts format terms) ≡ true
+pub has_its_format : (format : List ℕ) (terms : ℕ → Trees) → has_cuts format ≡ true → AreWritable terms → has_format format (with_term_texts format terms) ≡ true
 has_its_format [] terms h ok = refl
 has_its_format (c ∷ others) terms h ok =
     let p = and_parts (not (is_digit c) || is_cut others) (has_cuts others) h in

@@ -52,10 +52,10 @@ all_plain p e (b ∷ u) f h = let q = and_parts (p b) (all_are p u) h in rw (f b
 -- ---- parts
 
 -- the text is a part, or the beginning of one
-abbrev IsPart : ℕ → ℕ → List ℕ → Type 0
+abbrev pub IsPart : ℕ → ℕ → List ℕ → Type 0
 IsPart e d u = (rest : List ℕ) → part_length e None false d (u ++ rest) ≡ length u + part_length e None false d rest
 
-plain_part : (e d : ℕ) (u : List ℕ) → all_are (is_plain e) u ≡ true → IsPart e d u
+pub plain_part : (e d : ℕ) (u : List ℕ) → all_are (is_plain e) u ≡ true → IsPart e d u
 plain_part e d [] h rest = omega arith
 plain_part e d (b ∷ u) h rest =
     let p = and_parts (is_plain e b) (all_are (is_plain e) u) h in
@@ -63,7 +63,7 @@ plain_part e d (b ∷ u) h rest =
     let others = plain_part e d u p.1 rest in
     omega (arith, first, others)
 
-joined_parts : (e d : ℕ) (u v : List ℕ) → IsPart e d u → IsPart e d v → IsPart e d (u ++ v)
+pub joined_parts : (e d : ℕ) (u v : List ℕ) → IsPart e d u → IsPart e d v → IsPart e d (u ++ v)
 joined_parts e d u v h k rest =
     let whole = ap (part_length e None false d) (append_assoc u v rest) in
     let first = h (v ++ rest) in

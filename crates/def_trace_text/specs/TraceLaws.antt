@@ -1,12 +1,13 @@
 -- What is promised of texts of trace messages (own).
 -- Depends on their lines, on the lines of `dbg`, and on what they spell and how they are refused.
-use Rattle.std.specs.Prelude.{◌≡◌, ◌↔◌, ◌⊎◌, ℕ, true, false, List, length}
+use Rattle.std.specs.Prelude.{◌≡◌, ◌↔◌, ◌⊎◌, ℕ, true, false, List, length, Some}
 use Rattle.std.specs.List.{All}
 use Rattle.def_term.specs.Tree.{Tree, Trees}
+use Rattle.def_term.specs.Text.{comma_list, pid_text}
 use Rattle.def_text.specs.Spelling.{Spells}
 use Rattle.def_text.specs.Writable.{are_writable}
 use Rattle.def_trace_text.specs.Lines.{AreTextLines, trace_text_lines, IsTermText, term_text}
-use Rattle.def_trace_text.specs.DbgFormats.{dbg_formats, has_format, with_parts, with_term_texts}
+use Rattle.def_trace_text.specs.DbgFormats.{word_formats, send_format, pair_format, single_format, dbg_formats, other_kinds, first_format, has_format, with_parts, with_term_texts}
 use Rattle.def_trace_text.specs.DbgLines.{is_dbg_line, whole_text_lines}
 use Rattle.def_trace_text.specs.Messages.{IsTraceMessage, is_trace_message}
 use Rattle.def_trace_text.specs.TraceTexts.{SpellsTrace, TraceRefusal, IsTraceRefusal}
@@ -34,6 +35,19 @@ abbrev pub DbgFormatIsRead : Type 0
 DbgFormatIsRead =
     (terms : ℕ → Trees) → ((digit : ℕ) → are_writable (terms digit) ≡ true)
     → All (λ f. (has_format f.printed (with_term_texts f.printed terms) ≡ true) × (with_parts f.message f.printed (with_term_texts f.printed terms) ≡ with_term_texts f.message terms)) dbg_formats
+
+-- of what it prints by a format with a word of its own, that format is the first
+abbrev pub WordFormatIsFirst : Type 0
+WordFormatIsFirst =
+    (terms : ℕ → Trees) → ((digit : ℕ) → are_writable (terms digit) ≡ true) → All (λ f. first_format dbg_formats (with_term_texts f.printed terms) ≡ Some f) word_formats
+
+-- so it is of a send, where `2`, the byte 50, is the receiver's pid, and of two terms or one, where it is one of the other kinds
+abbrev pub OtherFormatIsFirst : Type 0
+OtherFormatIsFirst =
+    (terms : ℕ → Trees) → ((digit : ℕ) → are_writable (terms digit) ≡ true)
+    → ((n : ℕ) → comma_list (terms 50) ≡ pid_text n → first_format dbg_formats (with_term_texts send_format.printed terms) ≡ Some send_format)
+    × All (λ kind. comma_list (terms 50) ≡ kind
+    → (first_format dbg_formats (with_term_texts pair_format.printed terms) ≡ Some pair_format) × (first_format dbg_formats (with_term_texts single_format.printed terms) ≡ Some single_format)) other_kinds
 
 -- there are as many of them as lines, so that their numbers are those of the lines
 abbrev pub WholeLinesAreAsMany : Type 0

@@ -1,6 +1,7 @@
 // The laws of texts of trace messages.
 ghost use Rattle.def_trace_text.specs.TraceLaws.{LinesAreThere, TermTextIsThere, MessagesAreTuples};
 ghost use Rattle.def_trace_text.specs.TraceLaws.{DbgLineIsNoTerm, DbgLineHasParts, DbgFormatIsRead};
+ghost use Rattle.def_trace_text.specs.TraceLaws.{WordFormatIsFirst, OtherFormatIsFirst};
 ghost use Rattle.def_trace_text.specs.TraceLaws.{WholeLinesAreAsMany, OtherLinesAreWhole};
 ghost use Rattle.def_trace_text.specs.TraceLaws.{SpelledTraceIsOne, SpelledTraceIsNotRefused, TraceRefusalIsOne};
 ghost use Rattle.def_trace_text.specs.TraceLaws.{TraceOrRefusal};
@@ -21,6 +22,12 @@ pub fn a_line_is_of_one_kind()
 pub fn a_line_of_dbg_has_its_terms()
     ensures parts { DbgLineHasParts }
     ensures terms { DbgFormatIsRead }
+{}
+
+/// Of what `dbg` prints of a trace message of written terms, the first format is the one by which it is printed.
+pub fn the_first_format_is_its_own()
+    ensures words { WordFormatIsFirst }
+    ensures others { OtherFormatIsFirst }
 {}
 
 /// A line of `dbg` and the lines that go on with it are one, with empty lines in their places, so that each line keeps

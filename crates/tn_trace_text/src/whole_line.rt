@@ -39,11 +39,7 @@ fn put_further<A: Allocator>(text: &[u8], out: &mut Vec<u8, A>) -> Result<(), Al
 }
 
 /// A line with those that go on with it, of the text after it.
-fn with_further<A: Allocator>(
-    alloc: A,
-    line: &[u8],
-    after: &[u8],
-) -> Result<Vec<u8, A>, AllocError>
+fn with_further<A: Allocator>(alloc: A, line: &[u8], after: &[u8]) -> Result<Vec<u8, A>, AllocError>
     ensures { IfOk result (λ v. v.items ≡ line.now ++ further_text (trace_text_lines after.now)) }
 {
     let mut whole = Vec::new(alloc);
