@@ -108,13 +108,13 @@ first_after [] f after line h e = rw e refl
 first_after (g ∷ before) f after line h e = rw (h.0) (first_after before f after line h.1 e)
 
 -- a format of `dbg` by its place
-abbrev place : ℕ → DbgFormat
+abbrev pub place : ℕ → DbgFormat
 place i = get_or dbg_formats i single_format
 
 abbrev printed_by : DbgFormat → (ℕ → Trees) → List ℕ
 printed_by f terms = with_term_texts f.printed terms
 
-abbrev IsFirst : (ℕ → Trees) → DbgFormat → Type 0
+abbrev pub IsFirst : (ℕ → Trees) → DbgFormat → Type 0
 IsFirst terms f = first_format dbg_formats (printed_by f terms) ≡ Some f
 
 abbrev Differ : DbgFormat → DbgFormat → (ℕ → Trees) → Type 0
@@ -278,7 +278,7 @@ single_first kind terms ok k e =
     first_after (word_formats ++ send_format ∷ pair_format ∷ []) single_format [] line
     (none_more (word_formats ++ send_format ∷ []) pair_format line (none_more word_formats send_format line words (no_send (codes "3") kind terms ok k e mark)) (no_pair kind terms ok k e)) (has_its_format single_format.printed terms refl ok)
 
-abbrev KindIsFirst : (ℕ → Trees) → List ℕ → Type 0
+abbrev pub KindIsFirst : (ℕ → Trees) → List ℕ → Type 0
 KindIsFirst terms kind = comma_list (terms 50) ≡ kind → IsFirst terms pair_format × IsFirst terms single_format
 
 kind_first : (kind : List ℕ) (terms : ℕ → Trees) → AreWritable terms → IsKind kind → KindIsFirst terms kind

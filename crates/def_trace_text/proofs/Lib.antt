@@ -1,3 +1,4 @@
+pub mod DbgMessages
 pub mod FirstFormats
 pub mod DbgTexts
 pub mod WrittenParts

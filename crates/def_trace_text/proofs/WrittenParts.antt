@@ -33,10 +33,10 @@ name_plain : (e b : ℕ) → ends_part e ≡ true → is_name_byte b ≡ true �
 name_plain e b h n =
     rw (apart is_name_byte b e n (no_name e h), apart is_name_byte b 39 n refl, apart is_name_byte b 34 n refl, apart is_name_byte b 123 n refl, apart is_name_byte b 91 n refl, apart is_name_byte b 125 n refl, apart is_name_byte b 93 n refl) refl
 
-digit_name : (b : ℕ) → is_digit b ≡ true → is_name_byte b ≡ true
+pub digit_name : (b : ℕ) → is_digit b ≡ true → is_name_byte b ≡ true
 digit_name b h = search rules
 
-lower_name : (b : ℕ) → is_lower b ≡ true → is_name_byte b ≡ true
+pub lower_name : (b : ℕ) → is_lower b ≡ true → is_name_byte b ≡ true
 lower_name b h = search rules
 
 minus_plain : (e : ℕ) → ends_part e ≡ true → is_plain e 45 ≡ true
@@ -98,7 +98,7 @@ quoted_part e d s h rest =
     and_false true = refl
     and_false false = refl
 
-bare_is_name : (s : List ℕ) → is_written_bare s ≡ true → is_name s ≡ true
+pub bare_is_name : (s : List ℕ) → is_written_bare s ≡ true → is_name s ≡ true
 unfolding is_written_bare
 bare_is_name s h = (and_parts (is_name s) _ h).0
 

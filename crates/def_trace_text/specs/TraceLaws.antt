@@ -1,14 +1,14 @@
 -- What is promised of texts of trace messages (own).
 -- Depends on their lines, on the lines of `dbg`, and on what they spell and how they are refused.
-use Rattle.std.specs.Prelude.{◌≡◌, ◌↔◌, ◌⊎◌, ℕ, true, false, List, length, Some}
+use Rattle.std.specs.Prelude.{◌≡◌, ◌↔◌, ◌⊎◌, ℕ, true, false, List, length, ◌-◌, ◌<◌, slice_index}
 use Rattle.std.specs.List.{All}
-use Rattle.def_term.specs.Tree.{Tree, Trees}
-use Rattle.def_term.specs.Text.{comma_list, pid_text}
+use Rattle.def_term.specs.Tree.{Tree, Trees, count}
+use Rattle.def_term.specs.Text.{is_digit, comma_list, pid_text}
 use Rattle.def_text.specs.Spelling.{Spells}
 use Rattle.def_text.specs.Writable.{are_writable}
 use Rattle.def_trace_text.specs.Lines.{AreTextLines, trace_text_lines, IsTermText, term_text}
-use Rattle.def_trace_text.specs.DbgFormats.{word_formats, send_format, pair_format, single_format, dbg_formats, other_kinds, first_format, has_format, with_parts, with_term_texts}
-use Rattle.def_trace_text.specs.DbgLines.{is_dbg_line, whole_text_lines}
+use Rattle.def_trace_text.specs.DbgFormats.{DbgFormat, word_formats, send_format, pair_format, single_format, dbg_formats, other_kinds, has_format, with_parts, with_term_texts}
+use Rattle.def_trace_text.specs.DbgLines.{is_dbg_line, trace_line_text, whole_text_lines}
 use Rattle.def_trace_text.specs.Messages.{IsTraceMessage, is_trace_message}
 use Rattle.def_trace_text.specs.TraceTexts.{SpellsTrace, TraceRefusal, IsTraceRefusal}
 
@@ -30,30 +30,27 @@ DbgLineIsNoTerm = (line : List ℕ) (t : Tree) → is_dbg_line line ≡ true →
 abbrev pub DbgLineHasParts : Type 0
 DbgLineHasParts = All (λ f. (line : List ℕ) → has_format f.printed line ≡ true → with_parts f.printed f.printed line ≡ line) dbg_formats
 
--- what `dbg` prints by a format of written terms has the format, and by it stands for the text of the message that has these terms
-abbrev pub DbgFormatIsRead : Type 0
-DbgFormatIsRead =
+-- where a format ends with a digit, there is a term in its place
+abbrev pub HasLastTerm : List ℕ → (ℕ → Trees) → Type 0
+HasLastTerm format terms = is_digit (slice_index format (length format - 1)) ≡ true → 0 < count (terms (slice_index format (length format - 1)))
+
+-- what `dbg` prints of these terms by a format is read as the text of the message with them
+abbrev pub IsReadAs : (ℕ → Trees) → DbgFormat → Type 0
+IsReadAs terms f = HasLastTerm f.printed terms → trace_line_text (with_term_texts f.printed terms) ≡ with_term_texts f.message terms
+
+-- so it is by a format with a word of its own; by that of a send, where the digit 2, the byte 50, is a pid; and by those of two terms or one, where it is one of the other kinds
+abbrev pub DbgMessageIsRead : Type 0
+DbgMessageIsRead =
     (terms : ℕ → Trees) → ((digit : ℕ) → are_writable (terms digit) ≡ true)
-    → All (λ f. (has_format f.printed (with_term_texts f.printed terms) ≡ true) × (with_parts f.message f.printed (with_term_texts f.printed terms) ≡ with_term_texts f.message terms)) dbg_formats
+    → All (IsReadAs terms) word_formats
+    × ((n : ℕ) → comma_list (terms 50) ≡ pid_text n → IsReadAs terms send_format)
+    × All (λ kind. comma_list (terms 50) ≡ kind → IsReadAs terms pair_format × IsReadAs terms single_format) other_kinds
 
--- of what it prints by a format with a word of its own, that format is the first
-abbrev pub WordFormatIsFirst : Type 0
-WordFormatIsFirst =
-    (terms : ℕ → Trees) → ((digit : ℕ) → are_writable (terms digit) ≡ true) → All (λ f. first_format dbg_formats (with_term_texts f.printed terms) ≡ Some f) word_formats
-
--- so it is of a send, where `2`, the byte 50, is the receiver's pid, and of two terms or one, where it is one of the other kinds
-abbrev pub OtherFormatIsFirst : Type 0
-OtherFormatIsFirst =
-    (terms : ℕ → Trees) → ((digit : ℕ) → are_writable (terms digit) ≡ true)
-    → ((n : ℕ) → comma_list (terms 50) ≡ pid_text n → first_format dbg_formats (with_term_texts send_format.printed terms) ≡ Some send_format)
-    × All (λ kind. comma_list (terms 50) ≡ kind
-    → (first_format dbg_formats (with_term_texts pair_format.printed terms) ≡ Some pair_format) × (first_format dbg_formats (with_term_texts single_format.printed terms) ≡ Some single_format)) other_kinds
-
--- there are as many of them as lines, so that their numbers are those of the lines
+-- there are as many whole lines as lines, so that the number of each is that of its line
 abbrev pub WholeLinesAreAsMany : Type 0
 WholeLinesAreAsMany = (text : List ℕ) → length (whole_text_lines text) ≡ length (trace_text_lines text)
 
--- where no line is of `dbg`, they are the lines
+-- where no line is of `dbg`, the whole lines are the lines
 abbrev pub OtherLinesAreWhole : Type 0
 OtherLinesAreWhole = (text : List ℕ) → All (λ line. is_dbg_line line ≡ false) (trace_text_lines text) → whole_text_lines text ≡ trace_text_lines text
 

@@ -1,7 +1,6 @@
 // The laws of texts of trace messages.
 ghost use Rattle.def_trace_text.specs.TraceLaws.{LinesAreThere, TermTextIsThere, MessagesAreTuples};
-ghost use Rattle.def_trace_text.specs.TraceLaws.{DbgLineIsNoTerm, DbgLineHasParts, DbgFormatIsRead};
-ghost use Rattle.def_trace_text.specs.TraceLaws.{WordFormatIsFirst, OtherFormatIsFirst};
+ghost use Rattle.def_trace_text.specs.TraceLaws.{DbgLineIsNoTerm, DbgLineHasParts, DbgMessageIsRead};
 ghost use Rattle.def_trace_text.specs.TraceLaws.{WholeLinesAreAsMany, OtherLinesAreWhole};
 ghost use Rattle.def_trace_text.specs.TraceLaws.{SpelledTraceIsOne, SpelledTraceIsNotRefused, TraceRefusalIsOne};
 ghost use Rattle.def_trace_text.specs.TraceLaws.{TraceOrRefusal};
@@ -17,17 +16,14 @@ pub fn a_line_is_of_one_kind()
     ensures { DbgLineIsNoTerm }
 {}
 
-/// A line that has a format of `dbg` is what `dbg` prints by it, with its parts; and what `dbg` prints by a format of
-/// written terms has the format, and stands for the text of the message with these terms.
-pub fn a_line_of_dbg_has_its_terms()
-    ensures parts { DbgLineHasParts }
-    ensures terms { DbgFormatIsRead }
+/// A line that has a format of `dbg` is what `dbg` prints by it, with the line's parts.
+pub fn a_line_of_dbg_is_its_format()
+    ensures { DbgLineHasParts }
 {}
 
-/// Of what `dbg` prints of a trace message of written terms, the first format is the one by which it is printed.
-pub fn the_first_format_is_its_own()
-    ensures words { WordFormatIsFirst }
-    ensures others { OtherFormatIsFirst }
+/// What `dbg` prints of a trace message of written terms is read as the text of the message.
+pub fn a_message_of_dbg_is_read()
+    ensures { DbgMessageIsRead }
 {}
 
 /// A line of `dbg` and the lines that go on with it are one, with empty lines in their places, so that each line keeps
