@@ -155,8 +155,60 @@ SYSTEMS = (
     ("race", "--max-states 1"),
 )
 
+def elements(text):
+    """The elements of a tuple's or list's text: what commas part outside of quotes, tuples and lists."""
+    found, depth, quoted = [""], 0, None
+    for part in re.findall(r"\\.|.", text[1:-1]):
+        if quoted or part in "'\"":
+            quoted = None if part == quoted else quoted or part
+        else:
+            depth += (part in "{[") - (part in "}]")
+        if part == "," and not depth and not quoted:
+            found.append("")
+        else:
+            found[-1] += part
+    return found
+
+
+def function(mfa):
+    """`ffunc/2` of `dbg`: a function with its arguments or its arity."""
+    module, name, arguments = elements(mfa)
+    return f"{module}:{name}({arguments[1:-1]})" if arguments.startswith("[") else f"{module}:{name}/{arguments}"
+
+
+def dbg_line(message):
+    """`dhandler1/3` of `dbg`: what it prints of a trace message. It breaks long terms; here each list or tuple that is
+    the last term is broken after its first comma."""
+    _, pid, kind, *rest = elements(message)
+    if kind == "'receive'":
+        told = f"<< {rest[0]}"
+    elif kind == "send":
+        told = f"{rest[1]} ! {rest[0]}"
+    elif kind == "call":
+        told = f"call {function(rest[0])}" + (f" ({rest[1]})" if rest[1:] else "")
+    elif kind == "return_from":
+        told = f"returned from {function(rest[0])} -> {rest[1]}"
+    elif kind == "spawn":
+        told = f"spawn {rest[0]} as {function(rest[1])}"
+    else:
+        told = " ".join([kind, *rest[:-1], re.sub(r"^([{\[]\w+,)", r"\1\n     ", rest[-1])])
+    return f"({pid}) {told}"
+
+
+def has_dbg_line(message):
+    """Whether `dbg` prints all of a trace message: it leaves out what a match specification adds to a send or receive."""
+    _, _, kind, *rest = elements(message)
+    return len(rest) == {"'receive'": 1, "send": 2}.get(kind, len(rest))
+
+
+def mixed_lines(lines):
+    """Two of three messages as `dbg` prints them."""
+    return "".join(f"{dbg_line(line) if n % 3 and has_dbg_line(line) else line}\n" for n, line in enumerate(lines))
+
+
 # How a text may be laid out, by its messages.
 LAYOUTS = (
+    mixed_lines,
     "\n".join,
     lambda lines: "".join(f"{line}.\n" for line in lines),
     lambda lines: "% a trace\n\n" + "".join(f"  {line} .\r\n" for line in lines) + "\n",
@@ -208,6 +260,11 @@ NO_TRACES = (
     ("{trace,<0.84.0>}\n", 1, "it is no trace message"),
     ("% nothing\n\n{trace,<0.84.0>,call,{m,f,[]}} x\n", 3, "it spells no term"),
     ("[" * 33 + "]" * 33, 1, "it nests too deep"),
+    ("(<0.84.0>) exit\n", 1, "it spells no term"),
+    ("(<0.84.0>) exit normal (Timestamp: {1,2,3})\n", 1, "it spells no term"),
+    ("(<0.84.0>) call m:f(1)\n(<0.84.0>) exit {a,\n  b\n\n{trace", 2, "it spells no term"),
+    ("(<0.84.0>) exit {a,\n  b}\n% c\n  d\n", 4, "it is no trace message"),
+    ("(a) exit normal\n", 1, "it is no trace message"),
 )
 
 

@@ -1,3 +1,11 @@
+pub mod DbgMessages
+pub mod FirstFormats
+pub mod DbgTexts
+pub mod WrittenParts
+pub mod WholeLines
+pub mod DbgParts
+pub mod DbgTerms
+pub mod DbgRows
 pub mod TextLines
 pub mod TermTexts
 pub mod MessageLines

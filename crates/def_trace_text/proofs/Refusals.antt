@@ -6,7 +6,8 @@ use Rattle.def_text.specs.Faults.{FaultKind}
 use Rattle.def_text.specs.Spelling.{LENGTH, Spells, IsRefusedAt}
 use Rattle.def_text.proofs.One.{one, refused}
 use Rattle.def_text.proofs.Either.{once, either}
-use Rattle.def_trace_text.specs.Lines.{trace_text_lines, is_passed_over, term_text}
+use Rattle.def_trace_text.specs.Lines.{is_passed_over}
+use Rattle.def_trace_text.specs.DbgLines.{whole_text_lines, trace_line_text}
 use Rattle.def_trace_text.specs.Messages.{is_trace_message}
 use Rattle.def_trace_text.specs.StackTraces.{without_stacks}
 use Rattle.def_trace_text.specs.TraceTexts.{IsTraceLine, LinesSpell, SpellsTrace, LineFault, too_long, no_term, no_message, HasFault, TraceRefusal, LinesHaveFault, IsTraceRefusal}
@@ -17,15 +18,15 @@ use Rattle.def_trace_text.proofs.MessageLines.{passed, passed_more, read_first, 
 -- a line that spells a message has no fault
 fault_refuses : (line : List ℕ) (t : Tree) (f : LineFault) → IsTraceLine line t → HasFault line f → ⊥
 fault_refuses line t too_long s h = let short = s.spelled.short in omega (arith, short, h)
-fault_refuses line t (no_term kind at) s h = refused (term_text line) s.term kind at s.spelled h
+fault_refuses line t (no_term kind at) s h = refused (trace_line_text line) s.term kind at s.spelled h
 fault_refuses line t no_message s (u, spelled, is) =
-    let same : s.term ≡ u = one (term_text line) s.term u s.spelled spelled in
+    let same : s.term ≡ u = one (trace_line_text line) s.term u s.spelled spelled in
     let yes : is_trace_message u ≡ true = subst (λ x. is_trace_message x ≡ true) same s.is_message in
     cc
 
 same_kind : (line : List ℕ) (kind other : FaultKind) (at there : ℕ) → HasFault line (no_term kind at) → HasFault line (no_term other there) → no_term kind at ≡ no_term other there
 same_kind line kind other at there h g =
-    let is = once (term_text line) kind other at there h g in
+    let is = once (trace_line_text line) kind other at there h g in
     ap (λ k. no_term k at) is.0 ∙ ap (λ n. no_term other n) is.1
 
 -- a line has one fault
@@ -35,9 +36,9 @@ same_fault line too_long (no_term kind at) h k = let short = k.short in absurd (
 same_fault line too_long no_message h (u, spelled, is) = let short = spelled.short in absurd (omega (arith, short, h))
 same_fault line (no_term kind at) too_long h k = let short = h.short in absurd (omega (arith, short, k))
 same_fault line (no_term kind at) (no_term other there) h k = same_kind line kind other at there h k
-same_fault line (no_term kind at) no_message h (u, spelled, is) = absurd (refused (term_text line) u kind at spelled h)
+same_fault line (no_term kind at) no_message h (u, spelled, is) = absurd (refused (trace_line_text line) u kind at spelled h)
 same_fault line no_message too_long (u, spelled, is) k = let short = spelled.short in absurd (omega (arith, short, k))
-same_fault line no_message (no_term kind at) (u, spelled, is) k = absurd (refused (term_text line) u kind at spelled k)
+same_fault line no_message (no_term kind at) (u, spelled, is) k = absurd (refused (trace_line_text line) u kind at spelled k)
 same_fault line no_message no_message h k = refl
 
 -- ---- lines
@@ -102,18 +103,18 @@ one_refusal text r s h k =
 -- ---- messages or a refusal
 
 -- a text of a term spells one or has a fault
-term_or_fault : (line : List ℕ) → ((t : Tree) × Spells (term_text line) t) ⊎ ((f : LineFault) × HasFault line f)
-term_or_fault line = by_length line (cases_lt LENGTH (length (term_text line)))
+term_or_fault : (line : List ℕ) → ((t : Tree) × Spells (trace_line_text line) t) ⊎ ((f : LineFault) × HasFault line f)
+term_or_fault line = by_length line (cases_lt LENGTH (length (trace_line_text line)))
   where
-    refused_kind : ((t : Tree) × Spells (term_text line) t) ⊎ ((kind : FaultKind) × (at : ℕ) × IsRefusedAt (term_text line) kind at) → ((t : Tree) × Spells (term_text line) t) ⊎ ((f : LineFault) × HasFault line f)
+    refused_kind : ((t : Tree) × Spells (trace_line_text line) t) ⊎ ((kind : FaultKind) × (at : ℕ) × IsRefusedAt (trace_line_text line) kind at) → ((t : Tree) × Spells (trace_line_text line) t) ⊎ ((f : LineFault) × HasFault line f)
     refused_kind (inl s) = inl s
     refused_kind (inr (kind, at, h)) = inr (no_term kind at, h)
 
-    by_length : (l : List ℕ) → (LENGTH < length (term_text line)) ⊎ (length (term_text line) ≤ LENGTH) → ((t : Tree) × Spells (term_text line) t) ⊎ ((f : LineFault) × HasFault line f)
+    by_length : (l : List ℕ) → (LENGTH < length (trace_line_text line)) ⊎ (length (trace_line_text line) ≤ LENGTH) → ((t : Tree) × Spells (trace_line_text line) t) ⊎ ((f : LineFault) × HasFault line f)
     by_length l (inl long) = inr (too_long, long)
-    by_length l (inr short) = refused_kind (either (term_text line) short)
+    by_length l (inr short) = refused_kind (either (trace_line_text line) short)
 
-by_message : (b : Bool) (line : List ℕ) (t : Tree) → is_trace_message t ≡ b → Spells (term_text line) t → ((t : Tree) × IsTraceLine line t) ⊎ ((f : LineFault) × HasFault line f)
+by_message : (b : Bool) (line : List ℕ) (t : Tree) → is_trace_message t ≡ b → Spells (trace_line_text line) t → ((t : Tree) × IsTraceLine line t) ⊎ ((f : LineFault) × HasFault line f)
 by_message true line t e s = inl (without_stacks t, record { term = t; spelled = s; is_message = e; value = refl })
 by_message false line t e s = inr (no_message, (t, s, e))
 
@@ -121,7 +122,7 @@ by_message false line t e s = inr (no_message, (t, s, e))
 message_or_fault : (line : List ℕ) → ((t : Tree) × IsTraceLine line t) ⊎ ((f : LineFault) × HasFault line f)
 message_or_fault line = by_term (term_or_fault line)
   where
-    by_term : ((t : Tree) × Spells (term_text line) t) ⊎ ((f : LineFault) × HasFault line f) → ((t : Tree) × IsTraceLine line t) ⊎ ((f : LineFault) × HasFault line f)
+    by_term : ((t : Tree) × Spells (trace_line_text line) t) ⊎ ((f : LineFault) × HasFault line f) → ((t : Tree) × IsTraceLine line t) ⊎ ((f : LineFault) × HasFault line f)
     by_term (inl (t, s)) = by_message (is_trace_message t) line t refl s
     by_term (inr h) = inr h
 
@@ -163,4 +164,4 @@ answer [] = inl ([], tt)
 answer (line ∷ lines) = one_more (is_passed_over line) line lines refl (answer lines)
 
 pub trace_or_refusal : (text : List ℕ) → ((ts : List Tree) × SpellsTrace text ts) ⊎ ((r : TraceRefusal) × IsTraceRefusal text r)
-trace_or_refusal text = answer (trace_text_lines text)
+trace_or_refusal text = answer (whole_text_lines text)

@@ -127,6 +127,18 @@ empty_text = tt
 pub two_messages : SpellsTrace (codes "% of one process\n{trace,<0.100.0>,call,{m,f,[1]}}\r\n\n{trace,<0.100.0>,exit,normal}.\n") (call_message ∷ exit_message ∷ [])
 two_messages = (call_line, (exit_line, tt))
 
+dbg_call_line : IsTraceLine (codes "(<0.100.0>) call m:f(1)") call_message
+unfolding is_written_bare digits
+dbg_call_line = record { term = call_message; spelled = spells call_message refl (record { nests = lit≤ tt; sizes = refl }) (lit≤ tt); is_message = refl; value = refl }
+
+dbg_exit_line : IsTraceLine (codes "(<0.100.0>) exit normal") exit_message
+unfolding is_written_bare digits
+dbg_exit_line = record { term = exit_message; spelled = spells exit_message refl (record { nests = lit≤ tt; sizes = refl }) (lit≤ tt); is_message = refl; value = refl }
+
+-- lines of either kind
+pub both_kinds : SpellsTrace (codes "(<0.100.0>) call m:f(1)\n{trace,<0.100.0>,exit,normal}.\n(<0.100.0>) exit normal") (call_message ∷ exit_message ∷ exit_message ∷ [])
+both_kinds = (dbg_call_line, (exit_line, (dbg_exit_line, tt)))
+
 -- the third line has a term that is no trace message
 pub third_line : IsTraceRefusal (codes "\n{trace,<0.100.0>,exit,normal}.\n{trace,<0.100.0>}\n{") (record { line = 3; fault = no_message })
 unfolding is_written_bare digits

@@ -1,4 +1,6 @@
 pub mod Lines
+pub mod DbgFormats
+pub mod DbgLines
 pub mod Messages
 pub mod StackTraces
 pub mod TraceTexts

@@ -3,3 +3,4 @@ pub mod Contents
 pub mod MessageFields
 pub mod StackTraces
 pub mod LinesRead
+pub mod DbgFormats

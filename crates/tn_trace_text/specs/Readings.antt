@@ -4,9 +4,10 @@ use Rattle.std.specs.Prelude.{◌≡◌, ℕ, List, [], ◌∷◌, ◌++◌, tru
 use Rattle.std.specs.declared.vec.Vec.{Vec}
 use Rattle.def_term.specs.Tree.{Tree}
 use Rattle.def_trace_text.specs.Lines.{is_passed_over}
+use Rattle.def_trace_text.specs.DbgLines.{dbg_text, trace_line_text}
 use Rattle.def_trace_text.specs.Messages.{is_trace_message}
 use Rattle.def_trace_text.specs.StackTraces.{without_stacks}
-use Rattle.def_trace_text.specs.TraceTexts.{IsTraceLine, LinesSpell, SpellsTrace, LineFault, no_message, HasFault, IsTraceRefusal}
+use Rattle.def_trace_text.specs.TraceTexts.{IsTraceText, LinesSpell, SpellsTrace, no_message, HasTextFault, IsTraceRefusal}
 use Rattle.tn_term.specs.declared.term.Term.{Term}
 use Rattle.tn_term.specs.Views.{tree_of}
 use Rattle.tn_trace_text.specs.Faults.{line_fault_seen}
@@ -15,11 +16,15 @@ use Rattle.tn_trace_text.specs.declared.fault.TraceFault.TheVariants.{NoTerm, No
 
 -- ---- a line
 
--- the fault of this line, which has this number; refused memory says nothing of it
+-- the fault of the text of the line of this number; refused memory says nothing of it
+abbrev pub IsTextFault : List ℕ → ℕ → TraceFault → Type 0
+IsTextFault text n (NoTerm m fault) = (m ≡ n) × IsSomeAnd (line_fault_seen fault) (HasTextFault text)
+IsTextFault text n (NoMessage m) = (m ≡ n) × HasTextFault text no_message
+IsTextFault text n OutOfMemory = Unit {0}
+
+-- the fault of this line, which has this number
 abbrev pub IsLineFault : List ℕ → ℕ → TraceFault → Type 0
-IsLineFault line n (NoTerm m fault) = (m ≡ n) × IsSomeAnd (line_fault_seen fault) (HasFault line)
-IsLineFault line n (NoMessage m) = (m ≡ n) × HasFault line no_message
-IsLineFault line n OutOfMemory = Unit {0}
+IsLineFault line n fault = IsTextFault (trace_line_text line) n fault
 
 -- the message that a term of the line of this number is, or that it is none; refused memory says nothing of it
 abbrev pub IsMessageOfLine : {A : Type 0} → Tree → ℕ → Result (Term A) TraceFault → Type 0
@@ -28,10 +33,18 @@ IsMessageOfLine u n (Err (NoTerm m fault)) = ⊥
 IsMessageOfLine u n (Err (NoMessage m)) = (m ≡ n) × (is_trace_message u ≡ false)
 IsMessageOfLine u n (Err OutOfMemory) = Unit {0}
 
--- the message that the line spells, or its fault
+-- the message that the text of the line of this number spells, or its fault
+abbrev pub IsTextRead : {A : Type 0} → List ℕ → ℕ → Result (Term A) TraceFault → Type 0
+IsTextRead text n (Ok t) = IsTraceText text (tree_of t)
+IsTextRead text n (Err fault) = IsTextFault text n fault
+
+-- the message that the line of `dbg` stands for, or its fault
+abbrev pub IsDbgLineRead : {A : Type 0} → List ℕ → ℕ → Result (Term A) TraceFault → Type 0
+IsDbgLineRead line n r = IsTextRead (dbg_text line) n r
+
+-- the message that the line stands for, or its fault
 abbrev pub IsLineRead : {A : Type 0} → List ℕ → ℕ → Result (Term A) TraceFault → Type 0
-IsLineRead line n (Ok t) = IsTraceLine line (tree_of t)
-IsLineRead line n (Err fault) = IsLineFault line n fault
+IsLineRead line n r = IsTextRead (trace_line_text line) n r
 
 -- the message that the line spells comes after these, and where the line is passed over none does
 pub record AddsLine {A : Type 0} (line : List ℕ) (old new : List (Term A)) : Type 0 where

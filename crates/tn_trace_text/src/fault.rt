@@ -7,9 +7,10 @@ use tn_text::TextFault;
 /// Why a text isn't one of trace messages (own). A line is given by its number, from 1.
 #[derive(Clone, Copy, Debug, PartialEq, Eq)]
 pub enum TraceFault {
-    /// This line spells no term. The offset of the fault is one in the line, in bytes, from 0.
+    /// The text of this line's message spells no term. The offset of the fault is one in that text, in bytes, from 0.
+    /// It is the line itself but where `dbg` printed it.
     NoTerm { line: usize, fault: TextFault },
-    /// This line spells a term that is no trace message.
+    /// That text spells a term that is no trace message.
     NoMessage { line: usize },
     /// The allocator refused memory. It says nothing of the text.
     OutOfMemory,

@@ -1,15 +1,17 @@
-//! Texts of trace messages, one message on a line, read.
+//! Texts of trace messages, as terms or as `dbg` prints them, read.
 //!
 //! Depends on `def_trace_text` (which messages a text spells), `tn_text` (terms) and `tn_term`. Promises that
-//! `read_trace` answers the trace messages that a text spells, one on a line and without stack traces, or its refusal:
-//! the first line that spells none, by its number, and why.
+//! `read_trace` answers the trace messages that a text spells, without stack traces, or its refusal: the first line
+//! that stands for none, by its number, and why.
 #![tactic(auto)]
 
+mod dbg;
 mod fault;
 mod line;
 mod message;
 mod reader;
 mod stack_trace;
+mod whole_line;
 
 pub use fault::TraceFault;
 pub use reader::read_trace;

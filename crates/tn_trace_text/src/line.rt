@@ -43,7 +43,7 @@ pub(crate) fn is_passed_over(line: &[u8]) -> bool
 }
 
 /// The line without the blanks at its end.
-fn without_blanks(line: &[u8]) -> &[u8]
+pub(crate) fn without_blanks(line: &[u8]) -> &[u8]
     ensures { result.now ≡ without_blanks line.now }
 {
     let mut end = line.len();

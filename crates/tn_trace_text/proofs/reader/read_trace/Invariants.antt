@@ -6,7 +6,7 @@ use Rattle.tn_trace_text.proofs.reader.read_trace.Given as goal
 abbrev pub invariant-loop-rest : goal.invariant-loop-rest
 invariant-loop-rest g l = record {
   within : l.number + length l.rest ≤ length l.text;
-  read : ReadTo l.text l.rest l.number (map tree_of l.messages.items);
+  read : ReadTo l.text l.rest l.inside l.number (map tree_of l.messages.items);
 }
 
 abbrev pub decreases-loop-rest : goal.decreases-loop-rest

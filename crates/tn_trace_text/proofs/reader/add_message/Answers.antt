@@ -1,0 +1,13 @@
+use Rattle.std.proofs.Common.{◌≡◌, ◌∙◌, ◌∷◌, ◌++◌, [], sym, rules}
+use Rattle.def_trace_text.specs.Lines.{trace_text_lines}
+use Rattle.def_trace_text.proofs.WholeLines.{passed_alike}
+use Rattle.tn_trace_text.proofs.LinesRead.{add_further_one}
+use Rattle.tn_trace_text.proofs.reader.add_message.Goals as goal
+
+pub returns-clause-added : goal.returns-clause-added
+returns-clause-added g c =
+    let grown : c.push.new.self.items ≡ c.args.messages.now.items ++ c.in_ok-message.message ∷ [] = search rules in
+    add_further_one {A = g.row.A.Denot} c.args.line.now (trace_text_lines c.args.after.now) c.in_ok-message.message c.args.messages.now.items c.push.new.self.items (sym c.is_passed_over.ensures ∙ c.if-is_passed_over.false) c.in_ok-message.ensures grown
+
+pub returns-then-is_err-clause-refused : goal.returns-then-is_err-clause-refused
+returns-then-is_err-clause-refused g c = (passed_alike c.args.line.now (trace_text_lines c.args.after.now) ∙ sym c.is_passed_over.ensures ∙ c.if-is_passed_over.false, tt)
