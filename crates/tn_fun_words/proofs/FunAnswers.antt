@@ -1,5 +1,7 @@
 -- The answer in the words of a fun, of that in the words of the specification.
-use Rattle.std.proofs.Common.{◌≡◌, ◌∙◌, ℕ, List, [], ◌++◌, Option, Some, None, Ok, map, refl, sym, ap, subst}
+use Rattle.std.proofs.Common.{◌≡◌, ◌∙◌, ℕ, List, [], ◌++◌, Option, Some, None, Ok, map, flat_map, refl, sym, ap, subst}
+use Rattle.std.proofs.Math.Logic.{∥∥₁_elim}
+use Rattle.std.proofs.Props.{props}
 use Rattle.std.specs.Option.{option_map, option_copied}
 use Rattle.std.specs.Borrow.{Bor}
 use Rattle.std.specs.declared.vec.Vec.{Vec}
@@ -12,8 +14,11 @@ use Rattle.def_spec.specs.Flags.{FlagTable}
 use Rattle.def_spec.specs.Outcome as outcome
 use Rattle.def_spec.specs.Reading.{spec_of}
 use Rattle.def_session.specs.State.{alive_at_start}
+use Rattle.def_fun.specs.Trees.{FunClause}
+use Rattle.def_fun.specs.Answers.{fun_of_text}
+use Rattle.def_fun_words.specs.Notes.{fun_notes, note_line, notes_or_none, notes_text}
 use Rattle.def_explain.specs.Texts.{spec_test_flags, spec_test_text}
-use Rattle.def_fun_words.specs.Words.{words_of_text}
+use Rattle.def_fun_words.specs.Words.{words_of_fun, words_or_none, words_of_text}
 use Rattle.def_fun_words.specs.WordTexts.{test_line_text, fun_test_text}
 use Rattle.tn_term.specs.declared.term.Term.{Term}
 use Rattle.tn_term.specs.declared.mfa.Mfa as code
@@ -59,6 +64,19 @@ one_specification bytes d s t p q =
     let again : spec_of (dialect_of d) q.0 ≡ Ok t = q.2 in
     cc
 
+-- ---- the words and the notes of a text
+
+text-set : IsSet (List ℕ)
+text-set = Prim.hlevel props
+
+words_said : (source : List ℕ) (fs : List FunClause) → ∥ fun_of_text source ≡ Ok fs ∥₁ → (d : ex.Dialect) (ks : List outcome.Clause) (c : ex.Context) (out : List ℕ)
+    → out ≡ fun_test_text (words_of_fun source fs) d ks c → out ≡ fun_test_text (words_of_text source) d ks c
+words_said source fs read d ks c out h =
+    ∥∥₁_elim read (text-set out (fun_test_text (words_of_text source) d ks c)) (λ e. h ∙ ap (λ r. fun_test_text (words_or_none source r) d ks c) (sym e))
+
+pub notes_said : (source : List ℕ) (fs : List FunClause) → ∥ fun_of_text source ≡ Ok fs ∥₁ → (out : List ℕ) → out ≡ flat_map (note_line source) (fun_notes fs) → out ≡ notes_text source
+notes_said source fs read out h = ∥∥₁_elim read (text-set out (notes_text source)) (λ e. h ∙ ap (λ r. flat_map (note_line source) (notes_or_none r)) (sym e))
+
 -- ---- the answer
 
 module _ {A : Type 0} (q : SpecTestInput) where
@@ -87,20 +105,20 @@ module _ {A : Type 0} (q : SpecTestInput) where
       ∙ ap (λ us. spec_test_text spec.dialect spec.clauses (context_of q us x.caller)) (one_list q.list.now x.elements ts x.of_list l)
       ∙ ap (λ f. spec_test_text spec.dialect spec.clauses (context_of q ts f)) (one_caller q.caller x.caller caller x.of_caller m)
 
-  pub in_words : (source : List ℕ) (list : Vec (Term A) A) (caller : Option (code.Mfa A)) (spec : Spec A) (ts : List (Term A)) (lent : Option (Bor (code.Mfa A))) (alive : Alive) (flags : FlagTable) (none front nothing text rest out plain : List ℕ)
+  pub in_words : (source : List ℕ) (fs : List FunClause) → ∥ fun_of_text source ≡ Ok fs ∥₁ → (list : Vec (Term A) A) (caller : Option (code.Mfa A)) (spec : Spec A) (ts : List (Term A)) (lent : Option (Bor (code.Mfa A))) (alive : Alive) (flags : FlagTable) (none front nothing text rest out plain : List ℕ)
       → IsListRead q.list.now list → caller_is q.caller (mfas_seen caller) → IsSpecificationRead q.spec.now q.dialect spec → ts ≡ list.items → option_copied lent ≡ caller → alive ≡ alive_at_start PROCESSES → flags ≡ spec_test_flags (dialect_of q.dialect) q.self_pid
       → none ≡ [] → front ≡ none ++ front_text [] (dialect_of spec.dialect) 0 (map clause_seen spec.clauses.items) (in_context ts lent alive flags)
-      → nothing ≡ [] → text ≡ nothing ++ front_text (words_of_text source) (dialect_of spec.dialect) 0 (map clause_seen spec.clauses.items) (in_context ts lent alive flags)
+      → nothing ≡ [] → text ≡ nothing ++ front_text (words_of_fun source fs) (dialect_of spec.dialect) 0 (map clause_seen spec.clauses.items) (in_context ts lent alive flags)
       → ((r : List ℕ) → plain ≡ front ++ r → rest ≡ r) → out ≡ text ++ rest → IsAnswerTo q plain → IsFunAnswerTo q source out
-  in_words source list caller spec ts lent alive flags none front nothing text rest out plain l m s of_list of_caller of_alive of_flags empty written also_empty worded after made x =
+  in_words source fs read list caller spec ts lent alive flags none front nothing text rest out plain l m s of_list of_caller of_alive of_flags empty written also_empty worded after made x =
       let d = dialect_of spec.dialect in
       let ks = map clause_seen spec.clauses.items in
       let us = map tree_of list.items in
       let context = context_of q us (mfas_seen caller) in
       let same : in_context ts lent alive flags ≡ context = context_is list.items caller ts lent alive flags of_list of_caller of_alive of_flags in
-      let end : List ℕ = Rattle.std.specs.Prelude.flat_map (test_line_text []) (end_after d 0 ks context) in
+      let end : List ℕ = flat_map (test_line_text []) (end_after d 0 ks context) in
       let front_is : front ≡ front_text [] d 0 ks context = written ∙ ap (λ z. z ++ front_text [] d 0 ks (in_context ts lent alive flags)) empty ∙ ap (front_text [] d 0 ks) same in
-      let text_is : text ≡ front_text (words_of_text source) d 0 ks context = worded ∙ ap (λ z. z ++ front_text (words_of_text source) d 0 ks (in_context ts lent alive flags)) also_empty ∙ ap (front_text (words_of_text source) d 0 ks) same in
+      let text_is : text ≡ front_text (words_of_fun source fs) d 0 ks context = worded ∙ ap (λ z. z ++ front_text (words_of_fun source fs) d 0 ks (in_context ts lent alive flags)) also_empty ∙ ap (front_text (words_of_fun source fs) d 0 ks) same in
       let whole : plain ≡ front ++ end = plain_is us (mfas_seen caller) (spec_seen spec) plain l m s x ∙ plain_halves d context ks ∙ ap (λ z. z ++ end) (sym front_is) in
       record {
         elements = us;
@@ -109,5 +127,5 @@ module _ {A : Type 0} (q : SpecTestInput) where
         of_list = l;
         of_caller = m;
         of_spec = s;
-        reported = made ∙ ap (λ z. text ++ z) (after end whole) ∙ ap (λ z. z ++ end) text_is ∙ sym (fun_halves d context (words_of_text source) ks);
+        reported = words_said source fs read d ks context out (made ∙ ap (λ z. text ++ z) (after end whole) ∙ ap (λ z. z ++ end) text_is ∙ sym (fun_halves d context (words_of_fun source fs) ks));
       }

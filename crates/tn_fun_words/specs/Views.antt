@@ -7,9 +7,9 @@ use Rattle.def_term.specs.Names.{Name}
 use Rattle.def_fun.specs.Trees.{FunExpr}
 use Rattle.def_fun.specs.Variables as variables
 use Rattle.def_fun_words.specs.Words as words
-use Rattle.def_fun_words.specs.Words.{guard_words, words_of_text}
+use Rattle.def_fun_words.specs.Words.{guard_words, words_of_fun}
 use Rattle.tn_fun.specs.Trees.{token_name, fun_expr_seen, fun_row_seen}
-use Rattle.tn_fun.specs.Clauses.{fun_clause_seen}
+use Rattle.tn_fun.specs.Clauses.{fun_clause_seen, fun_clauses_seen}
 use Rattle.tn_fun.specs.declared.tree.Expr.{Expr}
 use Rattle.tn_fun_words.specs.declared.names.Names.{Names}
 use Rattle.tn_fun_words.specs.declared.fun_words.FunWords.{FunWords}
@@ -42,10 +42,14 @@ line_words_seen o = option_map clause_words_seen o
 abbrev pub text_of_fun : {A : Type 0} → FunWords A → List ℕ
 text_of_fun f = f.bytes.now
 
--- the words of a fun, where there is one
+-- its words for the clauses of its specification
+abbrev pub all_words_seen : {A : Type 0} → FunWords A → List words.ClauseWords
+all_words_seen f = words_of_fun (text_of_fun f) (fun_clauses_seen (text_of_fun f) f.clauses.items)
+
+-- where there is one
 abbrev pub fun_words_seen : {A : Type 0} → Option (Bor (FunWords A)) → List words.ClauseWords
 fun_words_seen None = []
-fun_words_seen (Some f) = words_of_text (text_of_fun f.now)
+fun_words_seen (Some f) = all_words_seen f.now
 
 -- the names of the variables among some parts
 abbrev pub names_in_parts : List FunExpr → List Name

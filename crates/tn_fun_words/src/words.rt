@@ -2,9 +2,8 @@
 ghost use Rattle.std.specs.Prelude.{◌≡◌, ℕ, List, slice_get, max};
 ghost use Rattle.std.specs.Option.{option_map};
 ghost use Rattle.def_fun.specs.Translation.{alternatives_of};
-ghost use Rattle.def_fun_words.specs.Words.{words_of_text};
 ghost use Rattle.tn_fun.specs.Clauses.{guards_seen};
-ghost use Rattle.tn_fun_words.specs.Views.{clause_words_seen, conditions_seen, text_of_fun};
+ghost use Rattle.tn_fun_words.specs.Views.{clause_words_seen, conditions_seen, all_words_seen};
 
 use crate::fun_words::FunWords;
 use std::alloc::Allocator;
@@ -47,8 +46,8 @@ fn clause_count(guards: usize) -> usize
 
 impl<'a, A: Allocator + Copy> FunWords<'a, A> {
     /// The words for the clause of the specification after so many, where there is one.
-    pub fn clause_words(&self, index: usize) -> Option<ClauseWords<'_, 'a, A>>
-        ensures { option_map clause_words_seen result ≡ slice_get (words_of_text (text_of_fun self.now)) index }
+    pub(crate) fn clause_words(&self, index: usize) -> Option<ClauseWords<'_, 'a, A>>
+        ensures { option_map clause_words_seen result ≡ slice_get (all_words_seen self.now) index }
     {
         let clauses = &self.clauses;
         let mut before = index;
