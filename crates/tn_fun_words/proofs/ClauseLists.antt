@@ -4,10 +4,12 @@ use Rattle.std.proofs.lemmas.List.{drop_more, drop_all}
 use Rattle.std.specs.declared.vec.Vec.{Vec}
 use Rattle.def_fun.specs.Trees.{FunExpr, FunClause}
 use Rattle.def_fun.specs.Translation.{alternatives_of}
-use Rattle.def_fun_words.specs.Words.{ClauseWords, guard_words, clause_words, words_of_fun}
+use Rattle.def_fun_words.specs.Words.{ClauseWords, condition_text, guard_words, clause_words, words_of_fun}
+use Rattle.tn_fun.specs.Trees.{fun_expr_seen, fun_row_seen}
 use Rattle.tn_fun.specs.Clauses.{guard_seen, guards_seen, fun_clause_seen, fun_clauses_seen}
 use Rattle.tn_fun.specs.declared.clause.Clause.{Clause}
 use Rattle.tn_fun.specs.declared.tree.Expr.{Expr}
+use Rattle.tn_fun_words.specs.Views.{condition_texts}
 
 get_mapped : {X Y : Type 0} (f : X → Y) (xs : List X) (i : ℕ) (x : X) → i < length xs → x ≡ get_or xs i x → slice_get (map f xs) i ≡ Some (f x)
 get_mapped f [] i x below is = absurd (omega (arith, below))
@@ -28,6 +30,20 @@ get_later : {X : Type 0} (xs ys : List X) (n m : ℕ) → slice_get xs n ≡ Non
 get_later [] ys n m h e = let same : n ≡ m = omega (arith, e) in ap (slice_get ys) same
 get_later (y ∷ xs) ys zero m h e = absurd (let no : Some y ≡ None = h in cc)
 get_later (y ∷ xs) ys (suc n) m h e = get_later xs ys n m h (omega (arith, e))
+
+-- the text of the condition at an index, where there is one
+pub condition_there : {A : Type 0} (text : List ℕ) (es : List (Expr A)) (i : ℕ) (e : Expr A) → i < length es → e ≡ get_or es i e → slice_get (condition_texts text es) i ≡ Some (condition_text text (fun_expr_seen text e))
+condition_there text es i e below is = get_map (condition_text text) (fun_row_seen text es) i ∙ ap (option_map (condition_text text)) (get_mapped (fun_expr_seen text) es i e below is)
+
+past_all : {X : Type 0} (xs : List X) (i : ℕ) → length xs ≤ i → slice_get xs i ≡ None
+past_all [] i past = refl
+past_all (x ∷ xs) zero past = absurd (omega (arith, past))
+past_all (x ∷ xs) (suc i) past = past_all xs i (omega (arith, past))
+
+pub no_condition_there : {A : Type 0} (text : List ℕ) (es : List (Expr A)) (i : ℕ) → length es ≤ i → slice_get (condition_texts text es) i ≡ None
+no_condition_there text es i past =
+    get_map (condition_text text) (fun_row_seen text es) i ∙ ap (option_map (condition_text text)) (get_map (fun_expr_seen text) es i)
+    ∙ ap (λ o. option_map (condition_text text) (option_map (fun_expr_seen text) o)) (past_all es i past)
 
 mapped_as_many : {X Y : Type 0} (f : X → Y) (xs : List X) → length (map f xs) ≡ length xs
 mapped_as_many f [] = refl

@@ -79,6 +79,15 @@ notes_said source fs read out h = ∥∥₁_elim read (text-set out (notes_text 
 
 -- ---- the answer
 
+-- the answer in the words of the specification is that of this list, caller and specification
+plain_is : (q : SpecTestInput) (ts : List Tree) (caller : Option Mfa) (spec : outcome.Spec) (plain : List ℕ) → IsList q.list.now ts → caller_is q.caller caller → IsSpecification q.spec.now q.dialect spec → IsAnswerTo q plain
+    → plain ≡ spec_test_text spec.dialect spec.clauses (context_of q ts caller)
+plain_is q ts caller spec plain l m s x =
+    x.reported
+    ∙ ap (λ z. spec_test_text z.dialect z.clauses (context_of q x.elements x.caller)) (one_specification q.spec.now q.dialect x.spec spec x.of_spec s)
+    ∙ ap (λ us. spec_test_text spec.dialect spec.clauses (context_of q us x.caller)) (one_list q.list.now x.elements ts x.of_list l)
+    ∙ ap (λ f. spec_test_text spec.dialect spec.clauses (context_of q ts f)) (one_caller q.caller x.caller caller x.of_caller m)
+
 module _ {A : Type 0} (q : SpecTestInput) where
   -- the context of a list, a caller, the living processes and their flags
   abbrev pub in_context : List (Term A) → Option (Bor (code.Mfa A)) → Alive → FlagTable → ex.Context
@@ -96,30 +105,21 @@ module _ {A : Type 0} (q : SpecTestInput) where
       ∙ ap (λ living. record { matched_list = map tree_of xs; self_pid = q.self_pid; caller_mfa = mfas_seen caller; alive = living; flags = flags }) of_alive
       ∙ ap (λ fs. record { matched_list = map tree_of xs; self_pid = q.self_pid; caller_mfa = mfas_seen caller; alive = alive_at_start PROCESSES; flags = fs }) of_flags
 
-  -- the answer in the words of the specification is that of this list, caller and specification
-  plain_is : (ts : List Tree) (caller : Option Mfa) (spec : outcome.Spec) (plain : List ℕ) → IsList q.list.now ts → caller_is q.caller caller → IsSpecification q.spec.now q.dialect spec → IsAnswerTo q plain
-      → plain ≡ spec_test_text spec.dialect spec.clauses (context_of q ts caller)
-  plain_is ts caller spec plain l m s x =
-      x.reported
-      ∙ ap (λ z. spec_test_text z.dialect z.clauses (context_of q x.elements x.caller)) (one_specification q.spec.now q.dialect x.spec spec x.of_spec s)
-      ∙ ap (λ us. spec_test_text spec.dialect spec.clauses (context_of q us x.caller)) (one_list q.list.now x.elements ts x.of_list l)
-      ∙ ap (λ f. spec_test_text spec.dialect spec.clauses (context_of q ts f)) (one_caller q.caller x.caller caller x.of_caller m)
-
-  pub in_words : (source : List ℕ) (fs : List FunClause) → ∥ fun_of_text source ≡ Ok fs ∥₁ → (list : Vec (Term A) A) (caller : Option (code.Mfa A)) (spec : Spec A) (ts : List (Term A)) (lent : Option (Bor (code.Mfa A))) (alive : Alive) (flags : FlagTable) (none front nothing text rest out plain : List ℕ)
-      → IsListRead q.list.now list → caller_is q.caller (mfas_seen caller) → IsSpecificationRead q.spec.now q.dialect spec → ts ≡ list.items → option_copied lent ≡ caller → alive ≡ alive_at_start PROCESSES → flags ≡ spec_test_flags (dialect_of q.dialect) q.self_pid
+  pub in_words : (source : List ℕ) (fs : List FunClause) → ∥ fun_of_text source ≡ Ok fs ∥₁ → (given : Vec (Term A) A) (caller : Option (code.Mfa A)) (spec : Spec A) (ts : List (Term A)) (lent : Option (Bor (code.Mfa A))) (alive : Alive) (flags : FlagTable) (none front nothing text rest out plain : List ℕ)
+      → IsListRead q.list.now given → caller_is q.caller (mfas_seen caller) → IsSpecificationRead q.spec.now q.dialect spec → ts ≡ given.items → option_copied lent ≡ caller → alive ≡ alive_at_start PROCESSES → flags ≡ spec_test_flags (dialect_of q.dialect) q.self_pid
       → none ≡ [] → front ≡ none ++ front_text [] (dialect_of spec.dialect) 0 (map clause_seen spec.clauses.items) (in_context ts lent alive flags)
       → nothing ≡ [] → text ≡ nothing ++ front_text (words_of_fun source fs) (dialect_of spec.dialect) 0 (map clause_seen spec.clauses.items) (in_context ts lent alive flags)
       → ((r : List ℕ) → plain ≡ front ++ r → rest ≡ r) → out ≡ text ++ rest → IsAnswerTo q plain → IsFunAnswerTo q source out
-  in_words source fs read list caller spec ts lent alive flags none front nothing text rest out plain l m s of_list of_caller of_alive of_flags empty written also_empty worded after made x =
+  in_words source fs read given caller spec ts lent alive flags none front nothing text rest out plain l m s of_list of_caller of_alive of_flags empty written also_empty worded after made x =
       let d = dialect_of spec.dialect in
       let ks = map clause_seen spec.clauses.items in
-      let us = map tree_of list.items in
+      let us = map tree_of given.items in
       let context = context_of q us (mfas_seen caller) in
-      let same : in_context ts lent alive flags ≡ context = context_is list.items caller ts lent alive flags of_list of_caller of_alive of_flags in
+      let same : in_context ts lent alive flags ≡ context = context_is given.items caller ts lent alive flags of_list of_caller of_alive of_flags in
       let end : List ℕ = flat_map (test_line_text []) (end_after d 0 ks context) in
       let front_is : front ≡ front_text [] d 0 ks context = written ∙ ap (λ z. z ++ front_text [] d 0 ks (in_context ts lent alive flags)) empty ∙ ap (front_text [] d 0 ks) same in
       let text_is : text ≡ front_text (words_of_fun source fs) d 0 ks context = worded ∙ ap (λ z. z ++ front_text (words_of_fun source fs) d 0 ks (in_context ts lent alive flags)) also_empty ∙ ap (front_text (words_of_fun source fs) d 0 ks) same in
-      let whole : plain ≡ front ++ end = plain_is us (mfas_seen caller) (spec_seen spec) plain l m s x ∙ plain_halves d context ks ∙ ap (λ z. z ++ end) (sym front_is) in
+      let whole : plain ≡ front ++ end = plain_is q us (mfas_seen caller) (spec_seen spec) plain l m s x ∙ plain_halves d context ks ∙ ap (λ z. z ++ end) (sym front_is) in
       record {
         elements = us;
         caller = mfas_seen caller;

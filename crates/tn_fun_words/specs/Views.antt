@@ -7,7 +7,7 @@ use Rattle.def_term.specs.Names.{Name}
 use Rattle.def_fun.specs.Trees.{FunExpr}
 use Rattle.def_fun.specs.Variables as variables
 use Rattle.def_fun_words.specs.Words as words
-use Rattle.def_fun_words.specs.Words.{guard_words, words_of_fun}
+use Rattle.def_fun_words.specs.Words.{condition_text, guard_words, words_of_fun}
 use Rattle.tn_fun.specs.Trees.{token_name, fun_expr_seen, fun_row_seen}
 use Rattle.tn_fun.specs.Clauses.{fun_clause_seen, fun_clauses_seen}
 use Rattle.tn_fun.specs.declared.tree.Expr.{Expr}
@@ -29,6 +29,10 @@ names_seen n = record { of_whole = option_map (λ v. v.items) n.whole; numbers =
 -- the conditions of a guard
 abbrev pub conditions_seen : {A : Type 0} → List ℕ → Bor (List (Expr A)) → List FunExpr
 conditions_seen text es = fun_row_seen text es.now
+
+-- the texts of the conditions
+abbrev pub condition_texts : {A : Type 0} → List ℕ → List (Expr A) → List (List ℕ)
+condition_texts text es = map (condition_text text) (fun_row_seen text es)
 
 -- the words for a clause
 abbrev pub clause_words_seen : {A : Type 0} → ClauseWords A → words.ClauseWords
