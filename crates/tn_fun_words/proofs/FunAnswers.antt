@@ -30,7 +30,7 @@ use Rattle.tn_spec.specs.Views.{dialect_of, clause_seen}
 use Rattle.tn_spec.specs.Wholes.{spec_seen}
 use Rattle.tn_verdict.specs.declared.spec_test_input.SpecTestInput.{SpecTestInput}
 use Rattle.tn_verdict.specs.SpecTestInputs.{IsList, IsListRead, IsSpecification, IsSpecificationRead, caller_is, mfas_seen, context_of, IsAnswerTo}
-use Rattle.tn_fun_words.specs.FrontLines.{front_text, end_after}
+use Rattle.tn_fun_words.specs.FrontLines.{test_front_text, test_end_after}
 use Rattle.tn_fun_words.specs.FunAnswers.{IsFunAnswerTo}
 use Rattle.tn_fun_words.proofs.Fronts.{plain_halves, fun_halves}
 
@@ -107,8 +107,8 @@ module _ {A : Type 0} (q : SpecTestInput) where
 
   pub in_words : (source : List ℕ) (fs : List FunClause) → ∥ fun_of_text source ≡ Ok fs ∥₁ → (given : Vec (Term A) A) (caller : Option (code.Mfa A)) (spec : Spec A) (ts : List (Term A)) (lent : Option (Bor (code.Mfa A))) (alive : Alive) (flags : FlagTable) (none front nothing text rest out plain : List ℕ)
       → IsListRead q.list.now given → caller_is q.caller (mfas_seen caller) → IsSpecificationRead q.spec.now q.dialect spec → ts ≡ given.items → option_copied lent ≡ caller → alive ≡ alive_at_start PROCESSES → flags ≡ spec_test_flags (dialect_of q.dialect) q.self_pid
-      → none ≡ [] → front ≡ none ++ front_text [] (dialect_of spec.dialect) 0 (map clause_seen spec.clauses.items) (in_context ts lent alive flags)
-      → nothing ≡ [] → text ≡ nothing ++ front_text (words_of_fun source fs) (dialect_of spec.dialect) 0 (map clause_seen spec.clauses.items) (in_context ts lent alive flags)
+      → none ≡ [] → front ≡ none ++ test_front_text [] (dialect_of spec.dialect) 0 (map clause_seen spec.clauses.items) (in_context ts lent alive flags)
+      → nothing ≡ [] → text ≡ nothing ++ test_front_text (words_of_fun source fs) (dialect_of spec.dialect) 0 (map clause_seen spec.clauses.items) (in_context ts lent alive flags)
       → ((r : List ℕ) → plain ≡ front ++ r → rest ≡ r) → out ≡ text ++ rest → IsAnswerTo q plain → IsFunAnswerTo q source out
   in_words source fs read given caller spec ts lent alive flags none front nothing text rest out plain l m s of_list of_caller of_alive of_flags empty written also_empty worded after made x =
       let d = dialect_of spec.dialect in
@@ -116,9 +116,9 @@ module _ {A : Type 0} (q : SpecTestInput) where
       let us = map tree_of given.items in
       let context = context_of q us (mfas_seen caller) in
       let same : in_context ts lent alive flags ≡ context = context_is given.items caller ts lent alive flags of_list of_caller of_alive of_flags in
-      let end : List ℕ = flat_map (test_line_text []) (end_after d 0 ks context) in
-      let front_is : front ≡ front_text [] d 0 ks context = written ∙ ap (λ z. z ++ front_text [] d 0 ks (in_context ts lent alive flags)) empty ∙ ap (front_text [] d 0 ks) same in
-      let text_is : text ≡ front_text (words_of_fun source fs) d 0 ks context = worded ∙ ap (λ z. z ++ front_text (words_of_fun source fs) d 0 ks (in_context ts lent alive flags)) also_empty ∙ ap (front_text (words_of_fun source fs) d 0 ks) same in
+      let end : List ℕ = flat_map (test_line_text []) (test_end_after d 0 ks context) in
+      let front_is : front ≡ test_front_text [] d 0 ks context = written ∙ ap (λ z. z ++ test_front_text [] d 0 ks (in_context ts lent alive flags)) empty ∙ ap (test_front_text [] d 0 ks) same in
+      let text_is : text ≡ test_front_text (words_of_fun source fs) d 0 ks context = worded ∙ ap (λ z. z ++ test_front_text (words_of_fun source fs) d 0 ks (in_context ts lent alive flags)) also_empty ∙ ap (test_front_text (words_of_fun source fs) d 0 ks) same in
       let whole : plain ≡ front ++ end = plain_is q us (mfas_seen caller) (spec_seen spec) plain l m s x ∙ plain_halves d context ks ∙ ap (λ z. z ++ end) (sym front_is) in
       record {
         elements = us;

@@ -23,29 +23,29 @@ abbrev pub fired_lines_text : Option ClauseWords → ℕ → Bindings → List E
 fired_lines_text ws n b es = line_in ws (fired_clause_line n es) ++ flat_map (λ e. line_in ws (bound_line n e)) b
 
 -- of a clause and, where it doesn't fire, those after it
-abbrev pub front_lines : ℕ → Verdict → List TestLine → List TestLine
-front_lines n (fails r) rest = failed_line n r ∷ rest
-front_lines n (fires b es) rest = fired_clause_line n es ∷ map (bound_line n) b
+abbrev pub test_front_lines : ℕ → Verdict → List TestLine → List TestLine
+test_front_lines n (fails r) rest = failed_line n r ∷ rest
+test_front_lines n (fires b es) rest = fired_clause_line n es ∷ map (bound_line n) b
 
 -- of the clauses after so many
-abbrev pub front_after : Dialect → ℕ → List Clause → Context → List TestLine
-front_after d n [] c = []
-front_after d n (k ∷ ks) c = front_lines n (verdict_of d k c) (front_after d (suc n) ks c)
+abbrev pub test_front_after : Dialect → ℕ → List Clause → Context → List TestLine
+test_front_after d n [] c = []
+test_front_after d n (k ∷ ks) c = test_front_lines n (verdict_of d k c) (test_front_after d (suc n) ks c)
 
 -- the lines from the message on
-abbrev pub end_lines : Dialect → Clause → Context → ℕ → Verdict → List TestLine → List TestLine
-end_lines d k c n (fails r) rest = rest
-end_lines d k c n (fires b es) rest = lines_of_message d k c n b es
+abbrev pub test_end_lines : Dialect → Clause → Context → ℕ → Verdict → List TestLine → List TestLine
+test_end_lines d k c n (fails r) rest = rest
+test_end_lines d k c n (fires b es) rest = lines_of_message d k c n b es
 
 -- of the clauses after so many
-abbrev pub end_after : Dialect → ℕ → List Clause → Context → List TestLine
-end_after d n [] c = plain_line n (codes "=> no message: no clause fires") ∷ []
-end_after d n (k ∷ ks) c = end_lines d k c n (verdict_of d k c) (end_after d (suc n) ks c)
+abbrev pub test_end_after : Dialect → ℕ → List Clause → Context → List TestLine
+test_end_after d n [] c = plain_line n (codes "=> no message: no clause fires") ∷ []
+test_end_after d n (k ∷ ks) c = test_end_lines d k c n (verdict_of d k c) (test_end_after d (suc n) ks c)
 
 -- the text up to the message
-abbrev pub front_text : List ClauseWords → Dialect → ℕ → List Clause → Context → List ℕ
-front_text ws d n ks c = flat_map (test_line_text ws) (front_after d n ks c)
+abbrev pub test_front_text : List ClauseWords → Dialect → ℕ → List Clause → Context → List ℕ
+test_front_text ws d n ks c = flat_map (test_line_text ws) (test_front_after d n ks c)
 
 -- of a specification of the code
-abbrev pub front_text_in : {A : Type 0} → List ClauseWords → Spec A → code.Context A → List ℕ
-front_text_in ws s c = front_text ws (dialect_of s.dialect) 0 (map clause_seen s.clauses.items) (context_seen c)
+abbrev pub test_front_text_in : {A : Type 0} → List ClauseWords → Spec A → code.Context A → List ℕ
+test_front_text_in ws s c = test_front_text ws (dialect_of s.dialect) 0 (map clause_seen s.clauses.items) (context_seen c)

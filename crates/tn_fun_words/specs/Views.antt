@@ -23,8 +23,9 @@ lent_exprs_seen text es = map (λ e. fun_expr_seen text e.now) es
 abbrev pub name_list_seen : {A : Type 0} → List (Vec ℕ A) → List Name
 name_list_seen vs = map (λ v. v.items) vs
 
-abbrev pub names_seen : {A : Type 0} → Names A → variables.ClauseNames
-names_seen n = record { of_whole = option_map (λ v. v.items) n.whole; numbers = name_list_seen n.numbers.items }
+-- the names of a head
+abbrev pub head_names_seen : {A : Type 0} → Names A → variables.ClauseNames
+head_names_seen n = record { of_whole = option_map (λ v. v.items) n.whole; numbers = name_list_seen n.numbers.items }
 
 -- the conditions of a guard
 abbrev pub conditions_seen : {A : Type 0} → List ℕ → Bor (List (Expr A)) → List FunExpr

@@ -11,9 +11,9 @@ ghost use Rattle.tn_verdict.specs.SpecTestInputs.{IsSpecificationRead, IsAnswerT
 ghost use Rattle.tn_fun_words.specs.FunAnswers.{IsFunAnswerTo};
 ghost use Rattle.tn_fun_words.specs.Views.{text_of_fun};
 
+use crate::fun_words::FunWords;
 use crate::reason::after_front;
 use crate::test_lines::put_front;
-use crate::fun_words::FunWords;
 use bumpalo::Bump;
 use std::alloc::{AllocError, Allocator};
 use tn_action::Context;

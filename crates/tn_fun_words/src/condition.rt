@@ -71,7 +71,8 @@ pub fn put_condition<A: Allocator, B: Allocator>(
     out: &mut Vec<u8, B>,
 ) -> Result<(), AllocError>
     requires { map (span_seen bytes.now) tokens.now ≡ fun_spans bytes.now }
-    ensures { OnOk result (out.new.items ≡ out.old.items ++ condition_text bytes.now (fun_expr_seen bytes.now condition.now)) }
+    ensures { OnOk result (out.new.items
+        ≡ out.old.items ++ condition_text bytes.now (fun_expr_seen bytes.now condition.now)) }
 {
     let mut end = first_byte(condition);
     let mut depth = 0;

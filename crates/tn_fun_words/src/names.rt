@@ -3,11 +3,11 @@ ghost use Rattle.std.specs.Prelude.{◌≡◌, ◌||◌, ℕ, List, [], OnOk, If
 ghost use Rattle.std.specs.Option.{option_map, option_to_list};
 ghost use Rattle.std.specs.Str.{bytes_eq};
 ghost use Rattle.def_term.specs.Text.{is_among};
-ghost use Rattle.def_fun.specs.Variables.{name_of_variable, name_of_whole, matched_part, is_of_whole, with_name, with_names, ANY};
-ghost use Rattle.def_fun.specs.Variables.{names_of};
+ghost use Rattle.def_fun.specs.Variables.{ANY, is_of_whole, matched_part, name_of_variable, name_of_whole, names_of};
+ghost use Rattle.def_fun.specs.Variables.{with_name, with_names};
 ghost use Rattle.tn_fun.specs.Trees.{token_name, fun_expr_seen};
 ghost use Rattle.tn_fun.specs.Clauses.{fun_head_seen};
-ghost use Rattle.tn_fun_words.specs.Views.{names_seen, name_list_seen};
+ghost use Rattle.tn_fun_words.specs.Views.{head_names_seen, name_list_seen};
 
 use crate::parts::put_parts;
 use std::alloc::{AllocError, Allocator};
@@ -80,7 +80,7 @@ fn is_among<A: Allocator>(names: &Vec<Vec<u8, A>, A>, name: &[u8]) -> bool
 impl<A: Allocator> Names<A> {
     /// Whether it is the name of the whole.
     pub fn is_whole(&self, name: &[u8]) -> bool
-        ensures { result ≡ is_of_whole (names_seen self.now).of_whole name.now }
+        ensures { result ≡ is_of_whole (head_names_seen self.now).of_whole name.now }
     {
         match &self.whole {
             Some(whole) => whole.as_slice() == name,
@@ -90,17 +90,17 @@ impl<A: Allocator> Names<A> {
 
     /// Whether the name gets no number: it has one, is `_`, or is that of the whole.
     fn is_known(&self, name: &[u8]) -> bool
-        ensures { result ≡ (is_of_whole (names_seen self.now).of_whole name.now
-            || (bytes_eq name.now ANY || is_among (names_seen self.now).numbers name.now)) }
+        ensures { result ≡ (is_of_whole (head_names_seen self.now).of_whole name.now
+            || (bytes_eq name.now ANY || is_among (head_names_seen self.now).numbers name.now)) }
     {
         self.is_whole(name) || name == b"_".as_slice() || is_among(&self.numbers, name)
     }
 
     /// One more name, unless it has a number, is `_`, or is that of the whole.
     fn add(&mut self, name: Vec<u8, A>) -> Result<(), AllocError>
-        ensures whole { OnOk result ((names_seen self.new).of_whole ≡ (names_seen self.old).of_whole) }
-        ensures numbers { OnOk result ((names_seen self.new).numbers
-            ≡ with_name (names_seen self.old).of_whole (names_seen self.old).numbers name.items) }
+        ensures whole { OnOk result ((head_names_seen self.new).of_whole ≡ (head_names_seen self.old).of_whole) }
+        ensures numbers { OnOk result ((head_names_seen self.new).numbers
+            ≡ with_name (head_names_seen self.old).of_whole (head_names_seen self.old).numbers name.items) }
     {
         if self.is_known(&name) {
             return Ok(());
@@ -112,9 +112,9 @@ impl<A: Allocator> Names<A> {
 impl<A: Allocator + Copy> Names<A> {
     /// The name of a part more, where that is a variable.
     fn add_part(&mut self, alloc: A, bytes: &[u8], part: &Expr<A>) -> Result<(), AllocError>
-        ensures whole { OnOk result ((names_seen self.new).of_whole ≡ (names_seen self.old).of_whole) }
-        ensures numbers { OnOk result ((names_seen self.new).numbers
-            ≡ with_names (names_seen self.old).of_whole (names_seen self.old).numbers
+        ensures whole { OnOk result ((head_names_seen self.new).of_whole ≡ (head_names_seen self.old).of_whole) }
+        ensures numbers { OnOk result ((head_names_seen self.new).numbers
+            ≡ with_names (head_names_seen self.old).of_whole (head_names_seen self.old).numbers
             (option_to_list (name_of_variable (fun_expr_seen bytes.now part.now)))) }
     {
         match variable_of(part) {
@@ -130,8 +130,8 @@ fn names_with<A: Allocator + Copy>(
     bytes: &[u8],
     whole: Option<Token>,
 ) -> Result<Names<A>, AllocError>
-    ensures whole { IfOk result (λ n. (names_seen n).of_whole ≡ option_map (token_name bytes.now) whole) }
-    ensures numbers { IfOk result (λ n. (names_seen n).numbers ≡ []) }
+    ensures whole { IfOk result (λ n. (head_names_seen n).of_whole ≡ option_map (token_name bytes.now) whole) }
+    ensures numbers { IfOk result (λ n. (head_names_seen n).numbers ≡ []) }
 {
     let whole = match whole {
         Some(token) => Some(name_of(alloc, bytes, token)?),
@@ -149,7 +149,7 @@ pub fn names_of<A: Allocator + Copy>(
     bytes: &[u8],
     head: &Head<A>,
 ) -> Result<Names<A>, AllocError>
-    ensures { IfOk result (λ n. names_seen n ≡ names_of (fun_head_seen bytes.now head.now)) }
+    ensures { IfOk result (λ n. head_names_seen n ≡ names_of (fun_head_seen bytes.now head.now)) }
 {
     let mut names = names_with(alloc, bytes, whole_of(head))?;
     let mut parts = Vec::new(alloc);

@@ -2,7 +2,7 @@
 ghost use Rattle.std.specs.Prelude.{◌≡◌, ◌++◌, ℕ, List, OnOk, flat_map};
 ghost use Rattle.def_fun_words.specs.Notes.{note_offset, note_words, note_place, note_line};
 ghost use Rattle.tn_fun.specs.Trees.{token_name};
-ghost use Rattle.tn_fun_words.specs.NoteViews.{note_seen, notes_seen};
+ghost use Rattle.tn_fun_words.specs.NoteViews.{fun_note_seen, fun_notes_seen};
 
 use std::alloc::{AllocError, Allocator};
 use tn_fun::{Token, name_of};
@@ -24,7 +24,7 @@ pub enum Note {
 
 /// The token that is noted.
 fn token_of(note: Note) -> Token
-    ensures { (text : List ℕ) → result.from ≡ note_offset (note_seen text note) }
+    ensures { (text : List ℕ) → result.from ≡ note_offset (fun_note_seen text note) }
 {
     match note {
         Note::WholeInList(token) => token,
@@ -54,7 +54,7 @@ fn put_words<A: Allocator + Copy>(
     note: Note,
     out: &mut Vec<u8, A>,
 ) -> Result<(), AllocError>
-    ensures { OnOk result (out.new.items ≡ out.old.items ++ note_words (note_seen bytes.now note)) }
+    ensures { OnOk result (out.new.items ≡ out.old.items ++ note_words (fun_note_seen bytes.now note)) }
 {
     match note {
         Note::WholeInList(token) => {
@@ -66,20 +66,14 @@ fn put_words<A: Allocator + Copy>(
         }
         Note::AnyInExpression(_) => out.extend_from_slice(b"_ is the atom '_' here"),
         Note::TestEndsNode(token) => {
-            out.extend_from_slice(
-                b"erlang:match_spec_test/3 of OTP 27 can end the node at ",
-            )?;
+            out.extend_from_slice(b"erlang:match_spec_test/3 of OTP 27 can end the node at ")?;
             put_name(alloc, bytes, token, out)
         }
     }
 }
 
 /// Appends the line and the column of an offset.
-fn put_place<B: Allocator>(
-    bytes: &[u8],
-    at: usize,
-    out: &mut Vec<u8, B>,
-) -> Result<(), AllocError>
+fn put_place<B: Allocator>(bytes: &[u8], at: usize, out: &mut Vec<u8, B>) -> Result<(), AllocError>
     ensures { OnOk result (out.new.items ≡ out.old.items ++ note_place bytes.now at) }
 {
     let place = line_column_of(bytes, at);
@@ -97,7 +91,7 @@ fn put_note<A: Allocator + Copy>(
     note: Note,
     out: &mut Vec<u8, A>,
 ) -> Result<(), AllocError>
-    ensures { OnOk result (out.new.items ≡ out.old.items ++ note_line bytes.now (note_seen bytes.now note)) }
+    ensures { OnOk result (out.new.items ≡ out.old.items ++ note_line bytes.now (fun_note_seen bytes.now note)) }
 {
     put_place(bytes, token_of(note).from, out)?;
     put_words(alloc, bytes, note, out)?;
@@ -112,7 +106,7 @@ pub fn put_note_where<A: Allocator + Copy>(
     out: &mut Vec<u8, A>,
 ) -> Result<(), AllocError>
     ensures { OnOk result (out.new.items
-        ≡ out.old.items ++ flat_map (note_line bytes.now) (notes_seen bytes.now note)) }
+        ≡ out.old.items ++ flat_map (note_line bytes.now) (fun_notes_seen bytes.now note)) }
 {
     match note {
         Some(note) => put_note(alloc, bytes, note, out),

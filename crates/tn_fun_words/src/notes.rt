@@ -3,16 +3,16 @@ ghost use Rattle.std.specs.Prelude.{◌≡◌, ◌++◌, ℕ, List, OnOk, IfOk, 
 ghost use Rattle.def_fun.specs.Variables.{matched_part as part_matched, variable_kind};
 ghost use Rattle.def_fun_words.specs.Notes.{changes_flags, note_in_head, note_in_expr, note_of_call, note_of_kind};
 ghost use Rattle.def_fun_words.specs.Notes.{note_of_kind_in_head};
-ghost use Rattle.def_fun_words.specs.Notes.{noted_parts_of, expr_notes, row_notes, clause_notes, note_line, notes_text};
+ghost use Rattle.def_fun_words.specs.Notes.{expr_notes, row_notes, clause_notes, note_line, notes_text};
 ghost use Rattle.tn_fun.specs.Trees.{token_name, fun_expr_seen, fun_row_seen};
 ghost use Rattle.tn_fun.specs.Clauses.{fun_head_seen, fun_clause_seen, guards_seen};
-ghost use Rattle.tn_fun_words.specs.Views.{names_seen, text_of_fun};
-ghost use Rattle.tn_fun_words.specs.NoteViews.{notes_seen};
+ghost use Rattle.tn_fun_words.specs.Views.{head_names_seen, text_of_fun};
+ghost use Rattle.tn_fun_words.specs.NoteViews.{fun_notes_seen, notes_in_head};
 
+use crate::fun_words::FunWords;
 use crate::names::{Names, matched_part, names_of};
 use crate::note::{Note, put_note_where};
 use crate::parts::put_parts;
-use crate::fun_words::FunWords;
 use std::alloc::{AllocError, Allocator};
 use tn_fun::{Clause, Expr, Head, Token, name_of};
 
@@ -32,8 +32,8 @@ fn note_of_head_variable<A: Allocator + Copy>(
     names: &Names<A>,
     token: Token,
 ) -> Result<Option<Note>, AllocError>
-    ensures { IfOk result (λ n. notes_seen bytes.now n
-        ≡ note_of_kind_in_head (variable_kind (names_seen names.now) (token_name bytes.now token))
+    ensures { IfOk result (λ n. fun_notes_seen bytes.now n
+        ≡ note_of_kind_in_head (variable_kind (head_names_seen names.now) (token_name bytes.now token))
         (token_name bytes.now token) token.from) }
 {
     let name = name_of(alloc, bytes, token)?;
@@ -50,8 +50,8 @@ fn note_in_head<A: Allocator + Copy>(
     names: &Names<A>,
     part: &Expr<A>,
 ) -> Result<Option<Note>, AllocError>
-    ensures { IfOk result (λ n. notes_seen bytes.now n
-        ≡ note_in_head (names_seen names.now) (fun_expr_seen bytes.now part.now)) }
+    ensures { IfOk result (λ n. fun_notes_seen bytes.now n
+        ≡ note_in_head (head_names_seen names.now) (fun_expr_seen bytes.now part.now)) }
 {
     match part {
         Expr::Variable(token) => note_of_head_variable(alloc, bytes, names, *token),
@@ -66,8 +66,8 @@ fn note_of_variable<A: Allocator + Copy>(
     names: &Names<A>,
     token: Token,
 ) -> Result<Option<Note>, AllocError>
-    ensures { IfOk result (λ n. notes_seen bytes.now n
-        ≡ note_of_kind (variable_kind (names_seen names.now) (token_name bytes.now token)) token.from) }
+    ensures { IfOk result (λ n. fun_notes_seen bytes.now n
+        ≡ note_of_kind (variable_kind (head_names_seen names.now) (token_name bytes.now token)) token.from) }
 {
     let name = name_of(alloc, bytes, token)?;
     if !names.is_whole(&name) && name.as_slice() == b"_".as_slice() {
@@ -82,7 +82,7 @@ fn note_of_call<A: Allocator + Copy>(
     bytes: &[u8],
     token: Token,
 ) -> Result<Option<Note>, AllocError>
-    ensures { IfOk result (λ n. notes_seen bytes.now n ≡ note_of_call (token_name bytes.now token) token.from) }
+    ensures { IfOk result (λ n. fun_notes_seen bytes.now n ≡ note_of_call (token_name bytes.now token) token.from) }
 {
     let name = name_of(alloc, bytes, token)?;
     if name.as_slice() == b"bindings".as_slice() {
@@ -101,8 +101,8 @@ fn note_in_expr<A: Allocator + Copy>(
     names: &Names<A>,
     part: &Expr<A>,
 ) -> Result<Option<Note>, AllocError>
-    ensures { IfOk result (λ n. notes_seen bytes.now n
-        ≡ note_in_expr (names_seen names.now) (fun_expr_seen bytes.now part.now)) }
+    ensures { IfOk result (λ n. fun_notes_seen bytes.now n
+        ≡ note_in_expr (head_names_seen names.now) (fun_expr_seen bytes.now part.now)) }
 {
     match part {
         Expr::Variable(token) => note_of_variable(alloc, bytes, names, *token),
@@ -120,7 +120,7 @@ fn put_head_notes<A: Allocator + Copy>(
     out: &mut Vec<u8, A>,
 ) -> Result<(), AllocError>
     ensures { OnOk result (out.new.items ≡ out.old.items ++ flat_map (note_line bytes.now)
-        (flat_map (note_in_head (names_seen names.now)) (noted_parts_of (part_matched (fun_head_seen bytes.now head.now))))) }
+        (notes_in_head (head_names_seen names.now) (part_matched (fun_head_seen bytes.now head.now)))) }
 {
     let mut parts = Vec::new(alloc);
     put_parts(matched_part(head), &mut parts)?;
@@ -140,7 +140,7 @@ fn put_expr_notes<A: Allocator + Copy>(
     out: &mut Vec<u8, A>,
 ) -> Result<(), AllocError>
     ensures { OnOk result (out.new.items ≡ out.old.items ++ flat_map (note_line bytes.now)
-        (expr_notes (names_seen names.now) (fun_expr_seen bytes.now expr.now))) }
+        (expr_notes (head_names_seen names.now) (fun_expr_seen bytes.now expr.now))) }
 {
     let mut parts = Vec::new(alloc);
     put_parts(expr, &mut parts)?;
@@ -160,7 +160,7 @@ fn put_row_notes<A: Allocator + Copy>(
     out: &mut Vec<u8, A>,
 ) -> Result<(), AllocError>
     ensures { OnOk result (out.new.items ≡ out.old.items ++ flat_map (note_line bytes.now)
-        (row_notes (names_seen names.now) (fun_row_seen bytes.now row.now.items))) }
+        (row_notes (head_names_seen names.now) (fun_row_seen bytes.now row.now.items))) }
 {
     for i in 0..row.len() {
         put_expr_notes(alloc, bytes, names, &row[i], out)?;
@@ -177,7 +177,7 @@ fn put_guard_notes<A: Allocator + Copy>(
     out: &mut Vec<u8, A>,
 ) -> Result<(), AllocError>
     ensures { OnOk result (out.new.items ≡ out.old.items ++ flat_map (note_line bytes.now)
-        (flat_map (row_notes (names_seen names.now)) (guards_seen bytes.now guards.now.items))) }
+        (flat_map (row_notes (head_names_seen names.now)) (guards_seen bytes.now guards.now.items))) }
 {
     for i in 0..guards.len() {
         put_row_notes(alloc, bytes, names, &guards[i], out)?;

@@ -69,7 +69,10 @@ fn put_plain_mismatch<A: Allocator, B: Allocator>(
     ensures { OnOk result (out.new.items
         ≡ out.old.items ++ head_reason_text (after_matching count (mismatch_seen mismatch.entry))) }
 {
-    put_reason(Reason::ByHead(HeadReason::AfterMatching { count, mismatch }), out)
+    put_reason(
+        Reason::ByHead(HeadReason::AfterMatching { count, mismatch }),
+        out,
+    )
 }
 
 /// Appends why a head doesn't match that differs after so many elements.

@@ -6,11 +6,11 @@ ghost use Rattle.tn_head.specs.Views.{binding_seen, bindings_seen};
 ghost use Rattle.tn_action.specs.Views.{effect_seen};
 ghost use Rattle.tn_verdict.specs.Views.{reason_seen};
 ghost use Rattle.tn_fun_words.specs.Views.{line_words_seen, fun_words_seen, name_list_seen};
-ghost use Rattle.tn_fun_words.specs.FrontLines.{named_line, fired_lines_text, front_text_in};
+ghost use Rattle.tn_fun_words.specs.FrontLines.{named_line, fired_lines_text, test_front_text_in};
 
+use crate::fun_words::FunWords;
 use crate::numbers::{numbered_names, put_clause_number, put_name};
 use crate::reason::put_reason_in_words;
-use crate::fun_words::FunWords;
 use crate::words::ClauseWords;
 use bumpalo::Bump;
 use std::alloc::{AllocError, Allocator};
@@ -141,7 +141,7 @@ pub fn put_front<'a, 'c, A: Allocator + Copy>(
     out: &mut Vec<u8, A>,
 ) -> Result<(), AllocError>
     ensures { OnOk result (out.new.items ≡ out.old.items
-        ++ front_text_in (fun_words_seen fun.entry) spec.now context.now) }
+        ++ test_front_text_in (fun_words_seen fun.entry) spec.now context.now) }
 {
     let clauses = &spec.clauses;
     for i in 0..clauses.len() {

@@ -100,7 +100,7 @@ put_parts-returns-in_ok-put_parts-in-Between g t c = λ text.
     let rest = noted_parts_of (fun_expr_seen text c.deref-in-Between.result.now) in
     let others = noted_parts_of (fun_expr_seen text c.deref-in-Between-2.result.now) in
     let is = ap (fun_expr_seen text) a.is ∙ seen_between text a.field-0 a.field-1 a.left a.right
-        ∙ ap (λ z. tree.between a.field-0 (operator_seen a.field-1) (fun_expr_seen text z) (fun_expr_seen text (Rattle.std.proofs.Common.box_value a.right))) (sym c.deref-in-Between.ensures)
-        ∙ ap (λ z. tree.between a.field-0 (operator_seen a.field-1) (fun_expr_seen text c.deref-in-Between.result.now) (fun_expr_seen text z)) (sym c.deref-in-Between-2.ensures) in
+    ∙ ap (λ z. tree.between a.field-0 (operator_seen a.field-1) (fun_expr_seen text z) (fun_expr_seen text (Rattle.std.proofs.Common.box_value a.right))) (sym c.deref-in-Between.ensures)
+    ∙ ap (λ z. tree.between a.field-0 (operator_seen a.field-1) (fun_expr_seen text c.deref-in-Between.result.now) (fun_expr_seen text z)) (sym c.deref-in-Between-2.ensures) in
     node_of_two_ok c.put_parts-in-Between-2.result (lent_exprs_seen text c.args.out.now.items) (lent_exprs_seen text c.push.new.self.items) (lent_exprs_seen text c.put_parts-in-Between.new.out.items) (lent_exprs_seen text c.put_parts-in-Between-2.new.out.items) rest others (noted_parts_of e) e
     (lent_more text c.args.out.now.items c.push.new.self.items c.args.expr c.in_ok-push.ensures.items) (first_part e _ (rest ++ others) is refl) (c.in_ok-put_parts-in-Between.ensures text) (c.put_parts-in-Between-2.ensures text)
