@@ -7,7 +7,7 @@ use Rattle.def_explain.specs.Mismatches.{HeadPart, is_term, is_bound, is_tuple_o
 use Rattle.def_explain.specs.Heads.{after_matching}
 use Rattle.def_explain.specs.Reasons.{ConditionReason, Reason, by_condition}
 use Rattle.def_explain.specs.ReasonTexts.{found_text}
-use Rattle.def_explain.specs.Texts.{head_reason_text, condition_reason_text}
+use Rattle.def_explain.specs.Texts.{head_reason_text, condition_reason_text, reason_text}
 use Rattle.def_fun_words.specs.Words.{ClauseWords}
 use Rattle.def_fun_words.specs.WordTexts.{line_part_text, line_parts_text, clause_after, condition_after, variable_words, variable_named, name_numbered, head_parts, reason_parts, line_in, failed_line}
 use Rattle.tn_verdict.specs.MismatchTexts.{level_text}
@@ -50,3 +50,25 @@ failed_pieces o number colon reason = simp append_assoc
 
 pub failed_written : (ws : Option ClauseWords) (n : ℕ) (r : Reason) (o z : List ℕ) → z ≡ (((o ++ line_part_text ws (clause_after n)) ++ codes ": ") ++ line_parts_text ws (reason_parts r)) ++ 10 ∷ [] → z ≡ o ++ line_in ws (failed_line n r)
 failed_written ws n r o z made = made ∙ failed_pieces o (line_part_text ws (clause_after n)) (codes ": ") (line_parts_text ws (reason_parts r))
+
+-- four pieces, of which the last is refused or not
+four_pieces : (o a n p q : List ℕ) → (((o ++ a) ++ n) ++ p) ++ q ≡ o ++ (((a ++ n) ++ p) ++ q)
+four_pieces o a n p q = simp append_assoc
+
+pub four_ok : {T E : Type 0} (done : Result T E) (o a n p q x y z d : List ℕ) → x ≡ o ++ a → y ≡ x ++ n → z ≡ y ++ p → OnOk done (d ≡ z ++ q) → OnOk done (d ≡ o ++ (((a ++ n) ++ p) ++ q))
+four_ok (Ok v) o a n p q x y z d first second third last =
+    last ∙ ap (λ s. s ++ q) (third ∙ ap (λ s. s ++ p) (second ∙ ap (λ s. s ++ n) first)) ∙ four_pieces o a n p q
+four_ok (Err e) o a n p q x y z d first second third last = tt
+
+-- the five pieces after the place of a variable, and the place
+pub bound_made : (o place name is value found last b c d e f z : List ℕ) → b ≡ o ++ place → c ≡ b ++ name → d ≡ c ++ is → e ≡ d ++ value → f ≡ e ++ found → z ≡ f ++ last
+    → z ≡ ((((o ++ place) ++ name) ++ is) ++ value) ++ (found ++ last)
+bound_made o place name is value found last b c d e f z one two three four five six =
+    six ∙ ap (λ s. s ++ last) (five ∙ ap (λ s. s ++ found) (four ∙ ap (λ s. s ++ value) (three ∙ ap (λ s. s ++ is) (two ∙ ap (λ s. s ++ name) one))))
+    ∙ append_assoc ((((o ++ place) ++ name) ++ is) ++ value) found last
+
+-- what is after the number of a condition
+pub after_number : (k : ℕ) (r : ConditionReason) (whole front full start nothing none : List ℕ) → whole ≡ full → full ≡ nothing ++ reason_text (by_condition k r) → nothing ≡ [] → front ≡ start → start ≡ none ++ (codes "condition " ++ decimal (suc k)) → none ≡ []
+    → whole ≡ front ++ condition_reason_text r
+after_number k r whole front full start nothing none same written empty also begun too =
+    same ∙ written ∙ ap (λ s. s ++ reason_text (by_condition k r)) empty ∙ ap (λ s. s ++ condition_reason_text r) (sym (also ∙ begun ∙ ap (λ s. s ++ (codes "condition " ++ decimal (suc k))) too))
