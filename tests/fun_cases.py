@@ -1,4 +1,5 @@
 """Cases of funs: the command `fun`, its specifications and its refusals. In a fun that is refused `^` is where."""
+import json
 import re
 
 from harness import TEXT_BYTES, TOP, check, run, wants
@@ -234,7 +235,7 @@ LACKING = (("send", "caller()", 0), ("receive", "caller()", 0), ("receive", "sil
 def fun_specifications():
     """Funs that have a specification, what it is, and that `spec` takes it."""
     for fun, spec in FUNS:
-        wants(f"fun {fun}", run(["fun", fun]), 0, f"{spec}\n".encode())
+        wants(f"fun {fun}", run(["fun", fun]), 0, f"{spec}\n".encode(), notes_on(fun))
         tried = run(["spec", "--list", "[a]", spec])
         check(f"the specification of {fun}", tried.returncode == 0, tried)
     fun, spec = FUNS[0]
@@ -249,7 +250,7 @@ def pretty_funs():
     for spec, fun in PRETTY:
         wants(f"the fun of {spec}", run(["fun", "--pretty", spec]), 0, f"{fun}\n".encode())
         whole = spec.replace('"ab"', "[97,98]").replace('"a\\"b\\\\"', "[97,34,98,92]")
-        wants(f"the specification of {fun}", run(["fun", fun]), 0, f"{whole}\n".encode())
+        wants(f"the specification of {fun}", run(["fun", fun]), 0, f"{whole}\n".encode(), notes_on(fun))
     for fun, spec in FUNS:
         shown = run(["fun", "--pretty", spec])
         again = run(["fun"], shown.stdout)
@@ -269,25 +270,202 @@ def pretty_funs():
 # Lists on which the specifications of funs are tested.
 LISTS = ("[]", "[1]", "[a]", "[7,8]", "[a,{b,c}]")
 
+# Funs whose words are easily mixed up: guards in several lines, comments, brackets, names that differ in case.
+WORDS_OF_FUNS = (
+    "fun([X]) when X  > % c, d; e ->\n\t3 -> message(X) end",
+    "fun([X]) when X == 1, true; element( 1,{X,X} )==[X,$,|\"b,;\"] , not(X) ;X==a->X end",
+    "% one (\nfun\n ([X,_]) when X > 8 -> X;\n\n\t([x,Y]) when % (\n is_atom(Y) -> true;\n   (All = [Who,{b,Id}]) when is_atom(Who),\n     hd(Id) -> All;\n   ([P,Q]=_R) -> {P,Q} end .",
+    "fun([A,{A,_}]) -> A;([A,{B,A}])->{A,B};\n([a,{Aa,'A'}]) when Aa=:='A';Aa =/= 'A', Aa == \"x\" ; hd( Aa ) -> Aa; (_) -> 1 end",
+    "fun(X) when length(X)>1,hd(X)==$\\s;length(X) == 1 -> X; (Y) when Y == [] ; (Y == [a]) -> Y; (Z) -> Z end",
+    "fun([X1,X]) when X1 == X; X < X1 -> X end",
+)
+
+# A token of a fun: a comment, a quoted text, a character, a variable, a word or a number, two signs or one.
+TOKEN = re.compile(r"%[^\n]*|'(?:\\.|[^'\\])*'|\"(?:\\.|[^\"\\])*\"|\$(?:\\.|.)|[A-Za-z0-9_@]+|->|=:=|=/=|[=/<>]=|=<|<-|[^\s]", re.S)
+VARIABLE = re.compile(r"[A-Z_][A-Za-z0-9_@]*")
+
+
+def parts_of(tokens, separators):
+    """The tokens between separators that are in no bracket, each with the separator after it; and the tokens after the last."""
+    parts, part, opened = [], [], 0
+    for token in tokens:
+        if not opened and token.group() in separators:
+            parts.append((part, token.group()))
+            part = []
+        else:
+            opened += (token.group() in "([{") - (token.group() in ")]}")
+            part.append(token)
+    return parts, part
+
+
+def clauses_of(fun):
+    """Of each clause of a fun its `(`, and the tokens of its head, its guards and its body."""
+    tokens = [token for token in TOKEN.finditer(fun) if not token.group().startswith("%")]
+    at, end = 1, ";"
+    while end == ";":
+        opening = tokens[at]
+        head = parts_of(tokens[at + 1 :], (")",))[0][0][0]
+        at += len(head) + 2
+        guards = parts_of(tokens[at:], ("->",))[0][0][0]
+        at += len(guards) + 1
+        body, end = parts_of(tokens[at:], (";", "end"))[0][0]
+        at += len(body) + 1
+        yield opening, head, guards[1:], body
+
+
+def parts_between(tokens, separator):
+    """All tokens by parts, between separators that are in no bracket."""
+    parts, last = parts_of(tokens, (separator,))
+    return [*(part for part, _ in parts), last]
+
+
+def whole_and_rest(head):
+    """The name of the whole of a head, where it has one, and the tokens of what is matched."""
+    parts = parts_between(head, "=")
+    if len(parts) == 1:
+        return None, head
+    first, second = parts
+    if len(first) == 1 and VARIABLE.fullmatch(first[0].group()):
+        return first[0].group(), second
+    return second[0].group(), first
+
+
+def names_of(head):
+    """The names of a head's variables in the order of their numbers."""
+    whole, rest = whole_and_rest(head)
+    found = [token.group() for token in rest if VARIABLE.fullmatch(token.group())]
+    return list(dict.fromkeys(name for name in found if name not in ("_", whole)))
+
+
+def guard_text(tokens):
+    """The tokens as they stand, with one blank where blanks or comments are between two."""
+    pairs = zip(tokens, [None, *tokens])
+    return "".join((" " if last and last.end() != token.start() else "") + token.group() for token, last in pairs)
+
+
+def words_of(fun):
+    """Of each clause of a fun's specification the line of the fun's clause, the texts of its guards, and its names."""
+    words = []
+    for opening, head, guards, _ in clauses_of(fun):
+        line = fun.count("\n", 0, opening.start()) + 1
+        for guard in parts_between(guards, ";"):
+            texts = [guard_text(part) for part in parts_between(guard, ",") if part]
+            words.append((line, texts, names_of(head)))
+    return words
+
+
+def note_on(token, after, whole):
+    """What is noted of a token of a guard or a body, before another token."""
+    word = token.group().strip("'")
+    if word == "_" != whole:
+        return "_ is the atom '_' here"
+    if after == "(" and word == "bindings":
+        return "bindings() is the atom '$*', on a node and here"
+    if after == "(" and word in ("enable_trace", "disable_trace", "trace"):
+        return f"erlang:match_spec_test/3 of OTP 27 can end the node at {word}"
+    return None
+
+
+def notes_on(fun):
+    """The notes on a fun, each with its place."""
+    notes = []
+    for _, head, guards, body in clauses_of(fun):
+        whole, rest = whole_and_rest(head)
+        said = f"{whole} is the whole, and in the list it is the atom '$_'"
+        notes += [(token.start(), said) for token in rest if token.group() == whole]
+        for tokens in (guards, body):
+            afters = [*(token.group() for token in tokens[1:]), None]
+            notes += [(token.start(), note_on(token, after, whole)) for token, after in zip(tokens, afters)]
+    places = ((fun.count("\n", 0, at) + 1, at - fun.rfind("\n", 0, at), note) for at, note in notes if note)
+    return "".join(f"fun:{line}:{column}: {note}\n" for line, column, note in places).encode()
+
+
+def in_words(fun, lines):
+    """The lines of `spec` in the words of the fun."""
+    words, answer, names = words_of(fun), [], []
+    for line in lines:
+        found = re.match(r"clause (\d+)(: condition (\d+)|: the head doesn't match at element [^:]*: '\$(\d+)'|)", line)
+        if found:
+            number, reason, condition, variable = found.groups()
+            where, guards, names = words[int(number) - 1]
+            said = reason
+            if condition:
+                said = f": guard {guards[int(condition) - 1]}"
+            elif variable:
+                said = reason.replace(f"'${variable}'", names[int(variable) - 1])
+            line = f"clause {number} (line {where}){said}{line[found.end() :]}"
+        elif line.startswith("  '$"):
+            number = re.match(r"  '\$(\d+)'", line).group(1)
+            line = f"  {names[int(number) - 1]}{line[len(number) + 5 :]}"
+        answer.append(line)
+    return answer
+
+
+def in_json(answers):
+    """The lines of several answers as JSON lines."""
+    dumped = (json.dumps({"line": i + 1, "text": line}, separators=(",", ":")) for lines in answers for i, line in enumerate(lines))
+    return "".join(f"{line}\n" for line in dumped)
+
+
+# What is noted of a fun: the notes on it, each with its place.
+NOTES = (
+    ("fun([X,Y] = X) -> Y end", ("1:6: X is the whole, and in the list it is the atom '$_'",)),
+    ("fun(_ = [_,{_}]) ->\n  {_} end", ("1:10: _ is the whole, and in the list it is the atom '$_'", "1:13: _ is the whole, and in the list it is the atom '$_'")),
+    ("fun([X]) when hd(bindings()) == X -> bindings() end", ("1:18: bindings() is the atom '$*', on a node and here", "1:38: bindings() is the atom '$*', on a node and here")),
+    ("fun([_]) when _ == 1; true ->\n message(_), [a|[_]] end", ("1:15: _ is the atom '_' here", "2:10: _ is the atom '_' here", "2:18: _ is the atom '_' here")),
+    ("fun([X]) when is_atom(X) -> X;\n   (_) -> enable_trace(call) end", ("2:11: erlang:match_spec_test/3 of OTP 27 can end the node at enable_trace",)),
+    (
+        "fun(_) -> disable_trace(self(),call), message(trace([],[])) end",
+        (
+            "1:11: erlang:match_spec_test/3 of OTP 27 can end the node at disable_trace",
+            "1:47: erlang:match_spec_test/3 of OTP 27 can end the node at trace",
+        ),
+    ),
+    ("fun(All = [X,_]) when X == bindings -> trace, All, caller(), silent(true) end", ()),
+)
+
+
+def notes_on_funs():
+    """The notes on a fun, of `fun` and once of `spec --fun`, after which the status is that of an answer."""
+    for fun, notes in NOTES:
+        said = "".join(f"fun:{note}\n" for note in notes).encode()
+        made = run(["fun", fun])
+        check(f"the notes on {fun}", made.returncode == 0 and made.stderr == said == notes_on(fun), made)
+        spec = made.stdout.decode().strip()
+        one = run(["spec", "--fun", "--list", "[1]", "--list", "[a,b]", fun])
+        other = run(["spec", "--list", "[1]", "--list", "[a,b]", spec])
+        check(f"the notes on a trial of {fun}", one.returncode == 0 and said in one.stderr and len(one.stderr) == len(said + other.stderr), (one, other))
+
 
 def tried_funs():
-    """`spec --fun` answers of a fun what `spec` answers of its specification; of one that is refused, what `fun` does."""
+    """`spec --fun` answers of a fun what `spec` answers of its specification, in the fun's words; of one that is refused, what `fun` does."""
+    specs = [*FUNS, *((fun, run(["fun", fun]).stdout.decode().strip()) for fun in WORDS_OF_FUNS)]
+    for fun, spec in specs:
+        for text in LISTS:
+            for more in ([], ["--me", "101", "--caller", "{m,f,1}"]):
+                one, other = (run(["spec", "--list", text, *more, *words]) for words in (["--fun", fun], [spec]))
+                said = in_words(fun, other.stdout.decode().splitlines())
+                expected = "".join(f"{line}\n" for line in said).encode()
+                check(f"a trial of {fun} on {text} {more}", (one.returncode, one.stdout) == (0, expected), (one, expected))
+                dumped = run(["spec", "--json", "--list", text, *more, "--fun", fun])
+                check(f"the JSON of a trial of {fun} on {text} {more}", dumped.stdout.decode() == in_json([said]), dumped)
+    fun, spec = specs[-2]
     lists = [word for text in LISTS for word in ("--list", text)]
-    for fun, spec in FUNS:
-        for more in ([], ["--json"], ["--me", "101", "--caller", "{m,f,1}"]):
-            one, other = (run(["spec", *lists, *more, *words]) for words in (["--fun", fun], [spec]))
-            same = (one.returncode, one.stdout, one.stderr) == (other.returncode, other.stdout, other.stderr)
-            check(f"a trial of {fun} {more}", same, (one, other))
+    one, other = (run(["spec", *lists, *words]) for words in (["--fun", fun], [spec]))
+    expected = "".join(f"{line}\n" for line in in_words(fun, other.stdout.decode().splitlines())).encode()
+    check("trials of a fun on several lists", (one.returncode, one.stdout) == (0, expected), one)
     fun, spec = FUNS[0]
-    expected = run(["spec", "--list", "[1,2]", spec])
+    expected = in_words(fun, run(["spec", "--list", "[1,2]", spec]).stdout.decode().splitlines())
     for words, text in (([], f"{fun}.\n"), (["-"], fun), (["--for", "call"], fun)):
         ran = run(["spec", "--fun", "--list", "[1,2]", *words], text.encode())
-        check(f"a trial of a fun by {words}", ran.returncode == 0 and ran.stdout == expected.stdout, ran)
+        check(f"a trial of a fun by {words}", ran.returncode == 0 and ran.stdout.decode().splitlines() == expected, ran)
     for marked, _ in REFUSED[:12]:
         fun = marked.replace("^", "")
         one, other = run(["spec", "--fun", "--list", "[1]"], fun.encode()), run(["fun"], fun.encode())
         same = (one.returncode, one.stdout, one.stderr) == (other.returncode, other.stdout, other.stderr)
         check(f"a trial of {marked[:80]}", same, (one, other))
+    ran = run(["spec", "--fun", "--list", "[1|", FUNS[0][0]])
+    check("a trial of a fun on no list", ran.returncode == 2 and not ran.stdout and ran.stderr.startswith(b"list:"), ran)
 
 
 def fun_refusals():

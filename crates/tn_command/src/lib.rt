@@ -52,7 +52,9 @@ pub use source::{Source, open, source_of};
 pub use spec_format::test_spec_in_format_over;
 pub use spec_lists::{test_headed_spec_over, test_specs};
 pub use spec_notes::a_list_of_another_length_is_none_of_the_dialect;
-pub use spec_test::{SpecTestRunFault, tell_question, test_spec, test_spec_over};
+pub use spec_test::{
+    SpecTestRunFault, spec_test_end, tell_question, tell_spec_test, test_spec, test_spec_over,
+};
 pub use start::Start;
 pub use status::{FAULT, JobEnd, REFUSED, UNMET, report};
 pub use stderr::{NamedText, run_fault};

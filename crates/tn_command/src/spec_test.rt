@@ -34,7 +34,7 @@ pub enum SpecTestRunFault<A: Allocator> {
 }
 
 /// How a trial with this answer ended.
-pub(crate) fn spec_test_end<A: Allocator>(
+pub fn spec_test_end<A: Allocator>(
     answer: Result<(), SpecTestRunFault<A>>,
 ) -> JobEnd<(), SpecTestRunFault<A>>
     ensures status { exit_status result.status ≡ spec_test_status_of answer }
@@ -171,7 +171,7 @@ pub fn tell_question<R: Eprint + AllocGlobal>(
 }
 
 /// The status of a test, after its notes on standard error, or why it has no answer.
-pub(crate) fn tell_spec_test<R: Eprint + AllocGlobal>(
+pub fn tell_spec_test<R: Eprint + AllocGlobal>(
     rt: &R,
     question: &SpecTestInput<'_>,
     end: JobEnd<(), SpecTestRunFault<Global>>,

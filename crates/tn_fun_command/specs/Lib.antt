@@ -1,3 +1,4 @@
 pub mod Words
 pub mod Ends
 pub mod PrettyEnds
+pub mod FunTests

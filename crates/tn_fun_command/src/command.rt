@@ -5,6 +5,7 @@ ghost use Rattle.tn_spec.specs.Views.{dialect_of};
 ghost use Rattle.tn_command.specs.Status.{IsStatus};
 ghost use Rattle.tn_fun_command.specs.Ends.{AnswersFun, status_of_refusal};
 
+use crate::notes::tell_notes_of;
 use crate::notice::put_notice;
 use std::alloc::{Allocator, Global};
 use std::io;
@@ -66,7 +67,7 @@ fn tell_refusal<R: Eprint + AllocGlobal>(rt: &R, text: &[u8], fault: FunFault) {
     print_notice(rt, Notice::Line(words));
 }
 
-/// Writes the answer of a fun's text to standard output, and why it is refused to standard error.
+/// Writes the answer of a fun's text to standard output, and the notes on it or why it is refused to standard error.
 pub fn print_fun<R: Print + Eprint + AllocGlobal>(rt: &R, text: &[u8], dialect: Dialect) -> ExitCode
     ensures { IsStatus (exit_status result) }
 {
@@ -74,7 +75,7 @@ pub fn print_fun<R: Print + Eprint + AllocGlobal>(rt: &R, text: &[u8], dialect: 
     let JobEnd { status, answer } = answer_fun_over(rt.alloc(), &mut writer, text, dialect);
     let (_, reason) = writer.into_inner().into_parts();
     match answer {
-        Ok(None) => {}
+        Ok(None) => tell_notes_of(rt, text),
         Ok(Some(fault)) => tell_refusal(rt, text, fault),
         Err(fault) => print_fault(rt, run_fault(fault), reason),
     }

@@ -1,0 +1,9 @@
+use Rattle.std.proofs.Common.{◌≡◌, ◌++◌, drop, flat_map}
+use Rattle.def_fun_words.specs.Notes.{expr_notes, row_notes, note_line}
+use Rattle.tn_fun.specs.Trees.{fun_row_seen}
+use Rattle.tn_fun_words.specs.Views.{head_names_seen}
+use Rattle.tn_fun_words.proofs.notes.put_row_notes.Given as goal
+
+abbrev pub invariant-loop-i : goal.invariant-loop-i
+invariant-loop-i g l = l.out.items ++ flat_map (note_line l.bytes) (flat_map (expr_notes (head_names_seen l.names)) (fun_row_seen l.bytes (drop l.i l.row.items)))
+    ≡ l.fn.out.items ++ flat_map (note_line l.bytes) (row_notes (head_names_seen l.names) (fun_row_seen l.bytes l.row.items))

@@ -1,0 +1,4 @@
+pub mod Views
+pub mod NoteViews
+pub mod FrontLines
+pub mod FunAnswers
