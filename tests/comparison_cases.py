@@ -65,7 +65,7 @@ def first_match(trace, entries, total, goes_on):
     """The first entry that shows the trace: its journal and the pairs."""
     for journal, text in entries:
         lines = text.splitlines()[1:]
-        lists = [lines] if total else sorted(groups_of(lines, False), key=lambda group: int(process_of(group[0])))
+        lists = lists_of(lines, total)
         found = begun(groups_of(trace, total), lists) if goes_on or len(lines) == len(trace) else None
         if found is not None:
             return journal, found, lines
@@ -94,19 +94,64 @@ def difference(trace, count, pairs, lines, total):
     return f"not there: {trace[count]}\nthere: {there}\n"
 
 
-def answer(trace, entries, whole, total, goes_on):
-    """The lines of a comparison, and its status."""
-    found = first_match(trace, entries, total, goes_on)
-    if found:
-        return run_line("possible: journal", found[0]) + pair_lines(found[1]), 0
-    word, status = ("impossible", 1) if whole else ("unknown", 4)
-    if not entries:
-        return f"{word}: no run to rest was met\n", status
-    count = next(n for n in range(len(trace), -1, -1) if first_match(trace[:n], entries, total, True))
-    journal, pairs, lines = first_match(trace[:count], entries, total, True)
+def lists_of(lines, total):
+    """The messages of a run that are in an order; those of processes by rising pid."""
+    return [lines] if total else sorted(groups_of(lines, False), key=lambda group: int(process_of(group[0])))
+
+
+def listing(script, journal):
+    """The messages of the run by a journal."""
+    text = run(["replay", "--quiet", "--picks", journal], script).stdout.decode()
+    return text.partition("== replies\n")[0].splitlines()[1:]
+
+
+POSSIBLE = re.compile(r"possible: journal ?(.*)\n")
+LONGEST = re.compile(r"(impossible|unknown): the longest prefix is (\d+) of \d+ messages?: journal ?(.*)\n")
+
+
+def possible_answer(script, told, trace, total, goes_on):
+    """The lines of a trace that is possible, by the run of the journal that they have."""
+    journal = POSSIBLE.match(told)[1]
+    lines = listing(script, journal)
+    pairs = begun(groups_of(trace, total), lists_of(lines, total))
+    if pairs is None or not goes_on and len(lines) != len(trace):
+        return "the run shows other messages"
+    return run_line("possible: journal", journal) + pair_lines(pairs)
+
+
+def prefix_answer(script, told, trace, total):
+    """The lines of the longest prefix, by the run of the journal that they have."""
+    word, count, journal = LONGEST.match(told).groups()
+    lines, count = listing(script, journal), int(count)
+    lists = lists_of(lines, total)
+    pairs = begun(groups_of(trace[:count], total), lists)
+    if pairs is None or count < len(trace) and begun(groups_of(trace[: count + 1], total), lists) is not None:
+        return "the run has another prefix"
     size = f"{len(trace)} message" + ("" if len(trace) == 1 else "s")
     begin = run_line(f"{word}: the longest prefix is {count} of {size}: journal", journal)
-    return begin + pair_lines(pairs) + difference(trace, count, pairs, lines, total), status
+    return begin + pair_lines(pairs) + difference(trace, count, pairs, lines, total)
+
+
+def longest(trace, entries, total):
+    """How many messages of a trace the runs to rest begin with."""
+    return next(n for n in range(len(trace), -1, -1) if first_match(trace[:n], entries, total, True))
+
+
+def is_answer(script, told, trace, searched, total, goes_on):
+    """Whether these lines are an answer, with its status, beside the entries of a search through all states or some."""
+    entries, whole = searched
+    found = first_match(trace, entries, total, goes_on)
+    if POSSIBLE.match(told):
+        first = goes_on or not found or POSSIBLE.match(told)[1] == found[0]
+        return first and (found or not whole) and told == possible_answer(script, told, trace, total, goes_on), 0
+    if told.endswith(": no run to rest was met\n"):
+        return not whole and told.startswith("unknown"), 4
+    # By process and with a prefix a run to rest can show more than one that is followed until it departs.
+    good = LONGEST.match(told) and told == prefix_answer(script, told, trace, total) and (not found or goes_on and not total)
+    if good and whole:
+        count, most = int(LONGEST.match(told)[2]), longest(trace, entries, total)
+        good = count == most if total else count <= most
+    return good, 1 if told.startswith("impossible") else 4
 
 
 def compare(script, trace, words):
@@ -206,6 +251,8 @@ def mixed_lines(lines):
     return "".join(f"{dbg_line(line) if n % 3 and has_dbg_line(line) else line}\n" for n, line in enumerate(lines))
 
 
+CLOSING = re.compile(r"complete: \d+ states?, \d+ listings?\n|not complete: \d+ states? w(?:as|ere) met\n")
+
 # How a text may be laid out, by its messages.
 LAYOUTS = (
     mixed_lines,
@@ -229,10 +276,11 @@ def comparisons():
                 for goes_on in (False, True):
                     lay = LAYOUTS[n % len(LAYOUTS)]
                     ran = compare(script, lay(lines), [*options, *(["--prefix"] if goes_on else [])])
-                    told, status = answer(lines, entries, whole, total, goes_on)
-                    wanted = header + told + end[0]
-                    good = ran.returncode == status and ran.stdout.decode() == wanted and not ran.stderr
-                    check(f"compare {words} with {name}, {journal}, change {n}, {goes_on}", good, (wanted, ran))
+                    told, _, closing = ran.stdout.decode().removeprefix(header).partition("== explored\n")
+                    good, status = is_answer(script, told, lines, (entries, whole), total, goes_on)
+                    good = good and CLOSING.fullmatch(closing) and (not whole or closing.startswith("complete"))
+                    good = good and ran.returncode == status and not ran.stderr
+                    check(f"compare {words} with {name}, {journal}, change {n}, {goes_on}", good, (lines, ran))
 
 
 def possible_runs():
@@ -246,7 +294,7 @@ def possible_runs():
             told = compare(script, "\n".join(trace), []).stdout.decode()
             journal = re.search(r"(?m)^possible: journal ?(.*)$", told)[1]
             pids = dict(re.findall(r"(?m)^<0\.(\d+)\.0> is <0\.(\d+)\.0>$", told))
-            lines = run(["replay", "--quiet", "--picks", journal], script).stdout.decode().partition("== replies\n")[0].splitlines()[1:]
+            lines = listing(script, journal)
             ours = [PID.sub(lambda found: f"<0.{pids[found[1]]}.0>", line) for line in trace]
             by_process = lambda messages: sorted(messages, key=process_of)
             check(f"the run of a trace of {name}", by_process(ours) == by_process(lines), (ours, lines))

@@ -54,7 +54,8 @@ pub(crate) fn begins_trace<P: Allocator, A: Allocator + Copy>(
     orders: &TraceOrders<'_, P, A>,
     kept: &KeptListings<A>,
 ) -> Result<bool, AllocError>
-    ensures { IfOk result (λ b. (ms : List Tree) → AreTraceOrders ms orders.now → begins_trace ms (kept_seen kept.now) ≡ b) }
+    ensures { IfOk result (λ b. (ms : List Tree) →
+        AreTraceOrders ms orders.now → begins_trace ms (kept_seen kept.now) ≡ b) }
 {
     let lists = lists_with_messages(alloc, kept)?;
     let found = first_renaming(alloc, &lists, orders.like(kept))?;

@@ -2,8 +2,8 @@
 use std::alloc::{AllocError, Allocator};
 use std::hash::Hash;
 
-/// A node with its sessions and what is kept of their messages, and the journal that led there. A filter says which runs
-/// are followed.
+/// A node with its sessions and what is kept of their messages, and the journal that led there. A filter says which
+/// runs are followed.
 pub trait SearchState<A: Allocator>: Sized + Drop {
     ghost use Rattle.std.specs.Prelude.{◌≡◌, ℕ, List, IfOk};
     ghost use Rattle.def_explore.specs.Rests.{KeptMessages};

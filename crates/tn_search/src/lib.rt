@@ -1,8 +1,8 @@
 //! The states of a program's runs, and the search through all of its schedules.
 //!
 //! Depends on tn_explore (the search over whatever keeps a state), tn_trace (runs) and tn_messages (what states keep of
-//! messages, and which runs are followed). Promises that `explore_program` gives sound entries, each of another listing,
-//! and, where the search ends before its limit, complete ones with shortest journals.
+//! messages, and which runs are followed). Promises that `explore_program` gives sound entries, each of another
+//! listing, and, where the search ends before its limit, complete ones with shortest journals.
 #![tactic(auto)]
 
 mod exploration;
