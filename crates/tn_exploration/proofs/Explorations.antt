@@ -2,14 +2,11 @@
 use Rattle.std.proofs.Common.{◌≡◌, ◌∙◌, ℕ, ◌+◌, ◌<◌, ◌≤◌, ◌&&◌, Bool, true, false, List, [], ◌∷◌, ◌++◌, length, map, take, get_or, refl, sym, ap, subst, append-nil, append_assoc, arith}
 use Rattle.std.proofs.lemmas.List.{take_more, take_all, map-append}
 use Rattle.std.specs.Prelude.{◌||◌}
-use Rattle.std.specs.List.{list_any}
 use Rattle.def_term.specs.Names.{Name}
 use Rattle.def_script.specs.Program.{Program}
 use Rattle.def_script.specs.Script.{creations}
 use Rattle.def_run.specs.Round.{is_empty}
 use Rattle.def_explore.specs.Answers.{RestEntry}
-use Rattle.def_explore.specs.Output.{search_text}
-use Rattle.def_explore.specs.Words.{refutes}
 use Rattle.tn_explore.specs.Searches.{Explores}
 use Rattle.tn_moves.specs.Schedules.{schedule_seen, AreMovesOf}
 use Rattle.tn_search.specs.Sessions.{elements_at}

@@ -2,7 +2,7 @@
 use Rattle.std.proofs.Common.{◌≡◌, ◌∙◌, ℕ, zero, suc, ◌+◌, ◌-◌, ◌<◌, ◌≤◌, max, List, [], ◌∷◌, ◌++◌, length, get_or, drop, map, slice_get, Option, Some, None, option_map, refl, sym, ap, arith}
 use Rattle.std.proofs.lemmas.List.{drop_more, drop_all}
 use Rattle.std.specs.declared.vec.Vec.{Vec}
-use Rattle.def_fun.specs.Trees.{FunExpr, FunClause}
+use Rattle.def_fun.specs.Trees.{FunExpr}
 use Rattle.def_fun.specs.Translation.{alternatives_of}
 use Rattle.def_fun_words.specs.Words.{ClauseWords, condition_text, guard_words, clause_words, words_of_fun}
 use Rattle.tn_fun.specs.Trees.{fun_expr_seen, fun_row_seen}

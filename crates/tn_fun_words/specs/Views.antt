@@ -8,7 +8,7 @@ use Rattle.def_fun.specs.Trees.{FunExpr}
 use Rattle.def_fun.specs.Variables as variables
 use Rattle.def_fun_words.specs.Words as words
 use Rattle.def_fun_words.specs.Words.{condition_text, guard_words, words_of_fun}
-use Rattle.tn_fun.specs.Trees.{token_name, fun_expr_seen, fun_row_seen}
+use Rattle.tn_fun.specs.Trees.{fun_expr_seen, fun_row_seen}
 use Rattle.tn_fun.specs.Clauses.{fun_clause_seen, fun_clauses_seen}
 use Rattle.tn_fun.specs.declared.tree.Expr.{Expr}
 use Rattle.tn_fun_words.specs.declared.names.Names.{Names}

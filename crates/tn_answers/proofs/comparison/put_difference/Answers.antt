@@ -1,9 +1,8 @@
-use Rattle.std.proofs.Common.{◌≡◌, ◌∙◌, ◌++◌, ◌∷◌, [], ℕ, List, ap, sym, codes, map, take, length, refl}
+use Rattle.std.proofs.Common.{◌∙◌, ◌++◌, ◌∷◌, [], ℕ, ap, sym, codes, map, take, length, refl}
 use Rattle.std.proofs.lemmas.List.{take_min, take-map}
 use Rattle.std.proofs.lemmas.Option.{slice_get-map, slice_get_read}
-use Rattle.std.specs.Prelude.{Some, slice_get}
+use Rattle.std.specs.Prelude.{slice_get}
 use Rattle.std.specs.Option.{option_map}
-use Rattle.def_term.specs.Tree.{Tree}
 use Rattle.def_term.specs.Text.{w}
 use Rattle.def_compare.specs.Output.{trace_difference_text, there_line, message_there}
 use Rattle.tn_comparison.specs.Matches.{trace_question_seen, prefix_seen}

@@ -1,5 +1,4 @@
 use Rattle.std.proofs.Common.{◌∙◌, ◌++◌, ap, sym, codes, map, length}
-use Rattle.std.specs.Prelude.{None}
 use Rattle.std.specs.Option.{option_map}
 use Rattle.def_compare.specs.Entries.{longest_prefix}
 use Rattle.def_compare.specs.Output.{longest_prefix_text, no_match_word, trace_prefix_text}

@@ -1,4 +1,4 @@
-use Rattle.std.proofs.Common.{◌≡◌, ◌∙◌, ◌-◌, ◌<◌, ◌++◌, ℕ, List, length, take, drop, map, slice_index_or, sym, ap, arith}
+use Rattle.std.proofs.Common.{◌∙◌, ◌-◌, ◌<◌, ◌++◌, ℕ, List, length, take, drop, map, slice_index_or, sym, ap, arith}
 use Rattle.def_fun_words.specs.Words.{condition_text}
 use Rattle.tn_fun.specs.Tokens.{span_seen}
 use Rattle.tn_fun.specs.Trees.{fun_expr_seen}

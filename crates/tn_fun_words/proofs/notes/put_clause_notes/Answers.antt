@@ -1,4 +1,4 @@
-use Rattle.std.proofs.Common.{◌∙◌, ◌++◌, flat_map, sym, ap}
+use Rattle.std.proofs.Common.{◌∙◌, ◌++◌, flat_map, ap}
 use Rattle.def_fun.specs.Variables.{matched_part, names_of}
 use Rattle.def_fun_words.specs.Notes.{note_in_head, row_notes, noted_parts_of, note_line}
 use Rattle.tn_fun.specs.Trees.{fun_row_seen}

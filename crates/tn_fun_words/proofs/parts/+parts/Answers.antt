@@ -2,7 +2,7 @@ use Rattle.std.proofs.Common.{◌≡◌, ◌∙◌, [], ◌∷◌, ◌++◌, ref
 use Rattle.def_fun.specs.Trees as tree
 use Rattle.def_fun_words.specs.Notes.{noted_parts_of, parts_of_each}
 use Rattle.tn_fun.specs.Tokens.{operator_seen}
-use Rattle.tn_fun.specs.Trees.{token_name, fun_expr_seen, fun_exprs_seen}
+use Rattle.tn_fun.specs.Trees.{fun_expr_seen, fun_exprs_seen}
 use Rattle.tn_fun.proofs.TreeViews.{seen_variable, seen_integer, seen_atom, seen_strings, seen_parens, seen_call, seen_list, seen_list_onto, seen_tuple, seen_before, seen_between}
 use Rattle.tn_fun_words.specs.Views.{lent_exprs_seen}
 use Rattle.tn_fun_words.proofs.PartLists.{lent_more, first_part, node_ok, node_of_two_ok, each_next, each_end}

@@ -1,4 +1,3 @@
-use Rattle.std.proofs.Common.{◌∙◌}
 use Rattle.def_explain.specs.Texts.{condition_reason_text}
 use Rattle.tn_verdict.specs.Views.{condition_seen}
 use Rattle.tn_verdict.proofs.Pieces.{put_ok}
@@ -13,6 +12,6 @@ returns g c =
     condition_ok done (line_words_seen c.args.words) c.args.index r c.args.out.now.items c.put_condition_words.new.out.items c.extend_from_slice.new.self.items c.after_front.result.now
     c.in_ok-put_condition_words.ensures
     (c.after_front.ensures (condition_reason_text r)
-        (after_number c.args.index r c.deref.result.now c.deref-2.result.now c.put_reason.new.out.items c.put_plain_condition.new.out.items c.new-whole.result.items c.new-front.result.items
-        c.deref.ensures.value c.in_ok-put_reason.ensures.ok c.new-whole.ensures.items c.deref-2.ensures.value c.in_ok-put_plain_condition.ensures c.new-front.ensures.items))
+    (after_number c.args.index r c.deref.result.now c.deref-2.result.now c.put_reason.new.out.items c.put_plain_condition.new.out.items c.new-whole.result.items c.new-front.result.items
+    c.deref.ensures.value c.in_ok-put_reason.ensures.ok c.new-whole.ensures.items c.deref-2.ensures.value c.in_ok-put_plain_condition.ensures c.new-front.ensures.items))
     (put_ok done c.put_condition_words.new.out.items c.after_front.result.now c.extend_from_slice.new.self.items c.extend_from_slice.ensures.items)

@@ -1,6 +1,4 @@
 use Rattle.std.proofs.Common.{codes}
-use Rattle.def_explain.specs.Texts.{head_reason_text}
-use Rattle.tn_verdict.specs.Views.{head_reason_seen}
 use Rattle.tn_fun_words.proofs.Reasons.{alone_ok}
 use Rattle.tn_fun_words.proofs.reason.put_head_reason.Goals as goal
 

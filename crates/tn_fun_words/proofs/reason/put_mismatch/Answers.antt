@@ -1,5 +1,5 @@
-use Rattle.std.proofs.Common.{◌≡◌, ◌∙◌, ◌++◌, suc, codes, decimal, flat_map, sym, ap}
-use Rattle.def_explain.specs.Mismatches.{is_term, is_bound, is_tuple_of, is_list_of, mismatch}
+use Rattle.std.proofs.Common.{◌∙◌, ◌++◌, suc, codes, decimal, flat_map, sym, ap}
+use Rattle.def_explain.specs.Mismatches.{mismatch}
 use Rattle.def_explain.specs.Heads.{after_matching}
 use Rattle.def_term.specs.Text.{w}
 use Rattle.def_fun_words.specs.WordTexts.{head_parts, line_parts_text, name_numbered, variable_words}
@@ -35,6 +35,6 @@ returns-in_ok-write_value-in-Bound-2 g c =
     let o = c.args.out.now.items in
     bound_written ws ns n k m.place.now (value_seen c.in-Bound.value) (value_seen m.value) o c.write_value-in-Bound.new.out.items c.in_ok-names-in-Bound.ensures
     (bound_made o (((codes "the head doesn't match at element " ++ decimal (suc n)) ++ flat_map level_text m.place.now) ++ codes ": ") (variable_words (name_numbered ns k) k) (codes " is ") (w (value_seen c.in-Bound.value)) (codes ", found ") (w (value_seen m.value))
-        c.put_place.new.out.items c.put_name.new.out.items c.extend_from_slice.new.self.items c.write_value.new.out.items c.extend_from_slice-in-Bound.new.self.items c.write_value-in-Bound.new.out.items
-        c.in_ok-put_place-in-Bound.ensures c.in_ok-put_name-in-Bound.ensures c.in_ok-extend_from_slice-in-Bound.ensures.items c.in_ok-write_value-in-Bound.ensures.ok c.in_ok-extend_from_slice-in-Bound-2.ensures.items c.in_ok-write_value-in-Bound-2.ensures.ok)
+    c.put_place.new.out.items c.put_name.new.out.items c.extend_from_slice.new.self.items c.write_value.new.out.items c.extend_from_slice-in-Bound.new.self.items c.write_value-in-Bound.new.out.items
+    c.in_ok-put_place-in-Bound.ensures c.in_ok-put_name-in-Bound.ensures c.in_ok-extend_from_slice-in-Bound.ensures.items c.in_ok-write_value-in-Bound.ensures.ok c.in_ok-extend_from_slice-in-Bound-2.ensures.items c.in_ok-write_value-in-Bound-2.ensures.ok)
     ∙ ap (λ p. o ++ line_parts_text ws (head_parts (after_matching n (mismatch m.place.now (head_part_seen p) (value_seen m.value))))) (sym c.in-Bound.is)

@@ -1,4 +1,4 @@
-use Rattle.std.proofs.Common.{◌≡◌, ◌∙◌, [], ◌∷◌, ◌++◌, ◌||◌, true, false, cond, refl, sym, ap}
+use Rattle.std.proofs.Common.{◌∙◌, [], ◌∷◌, ◌++◌, ◌||◌, cond, refl, sym, ap}
 use Rattle.std.specs.Str.{bytes_eq}
 use Rattle.def_term.specs.Text.{is_among}
 use Rattle.def_fun.specs.Variables.{ANY, is_of_whole}
