@@ -380,7 +380,7 @@ fn comparison<'s, 'a: 's>(matches: &'s ArgMatches<'a>) -> Result<Request<'s>, Ba
         never: &[],
         sometimes: &[],
         trace: matches.get_str("trace"),
-        goes_on: matches.get_flag("prefix"),
+        goes_on: flag(matches, "prefix"),
         max_states,
     }))
 }
