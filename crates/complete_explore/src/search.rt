@@ -20,7 +20,7 @@ pub fn explore<A: Allocator + Copy, S: SearchState<A>>(
     max_states: usize,
 ) -> (SearchResult<A, S>, SearchResult<A, S>)
     ensures { IfOk result.0 (λ e. IfOk result.1 (λ f. (a : Query) →
-        S.is_of contexts.0.now one a → S.is_of contexts.1.now other a → S.filters filter.now a →
+        S.is_of contexts.entry.0.now one a → S.is_of contexts.entry.1.now other a → S.filters filter.now a →
         S.journal one ≡ moves a.program a.before → S.journal other ≡ moves a.program a.before →
         ExploreAlike S.kept_seen e f)) }
 {
