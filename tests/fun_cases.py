@@ -239,10 +239,10 @@ def fun_specifications():
         tried = run(["spec", "--list", "[a]", spec])
         check(f"the specification of {fun}", tried.returncode == 0, tried)
     fun, spec = FUNS[0]
-    wants("a fun from standard input", run(["fun"], f"{fun}\n".encode()), 0, f"{spec}\n".encode())
-    wants("a fun from -", run(["fun", "-"], fun.encode()), 0, f"{spec}\n".encode())
+    wants("a fun from standard input", run(["fun"], f"{fun}\n".encode()), 0, f"{spec}\n".encode(), notes_on(fun))
+    wants("a fun from -", run(["fun", "-"], fun.encode()), 0, f"{spec}\n".encode(), notes_on(fun))
     for event in ("call", "send", "receive"):
-        wants(f"a fun for {event}", run(["fun", "--for", event, fun]), 0, f"{spec}\n".encode())
+        wants(f"a fun for {event}", run(["fun", "--for", event, fun]), 0, f"{spec}\n".encode(), notes_on(fun))
 
 
 def pretty_funs():
@@ -464,8 +464,9 @@ def tried_funs():
         one, other = run(["spec", "--fun", "--list", "[1]"], fun.encode()), run(["fun"], fun.encode())
         same = (one.returncode, one.stdout, one.stderr) == (other.returncode, other.stdout, other.stderr)
         check(f"a trial of {marked[:80]}", same, (one, other))
-    ran = run(["spec", "--fun", "--list", "[1|", FUNS[0][0]])
-    check("a trial of a fun on no list", ran.returncode == 2 and not ran.stdout and ran.stderr.startswith(b"list:"), ran)
+    fun = FUNS[0][0]
+    ran = run(["spec", "--fun", "--list", "[1|", fun])
+    check("a trial of a fun on no list", ran.returncode == 2 and not ran.stdout and ran.stderr.startswith(notes_on(fun) + b"list:"), ran)
 
 
 def fun_refusals():
