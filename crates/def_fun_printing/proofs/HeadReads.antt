@@ -24,6 +24,7 @@ use Rattle.def_fun.specs.Variables.{ClauseNames, ANY, dollar_name, name_of_varia
 use Rattle.def_fun.specs.Translation.{VARIABLES, variable_term, is_proper_tail, elements_of_list, onto_tail, is_variable_atom, pattern_term, pattern_terms, HEAD_DEPTH, PART_DEPTH, within_depth, is_same_name, name_or_none, head_term, list_term, expr_translated, part_term, part_terms, alternative_term, alternatives_of, within_length, with_alternatives, with_fun_clauses, tree_of_fun}
 use Rattle.def_fun.proofs.NumberedNames.{same_name, among_numbered}
 use Rattle.def_fun.proofs.Translations.{then_ok, clauses_counted}
+use Rattle.def_fun_printing.proofs.Alternatives.{alternative}
 use Rattle.def_fun_printing.proofs.Results.{same_ok, no_ok, read_ok}
 use Rattle.def_fun_printing.proofs.NumberAtoms.{number_kind}
 use Rattle.def_fun_printing.proofs.PrintedHeads.{no_number, is_list_of, proper_if, onto_by}
@@ -354,16 +355,14 @@ module _ (d : Dialect) where
   alternative_read : (k : FunClause) (g : List FunExpr) (t : Tree) → is_fun_head k.head ≡ true → each_level g ≡ true → are_exprs k.body ≡ true → alternative_term d k g ≡ Ok t → (c : Clause) × (clause_of d t ≡ Ok c)
   alternative_read k g t i l m h =
       let ns = names_of k.head in
-      let a = then_ok (head_term k.head) (λ x. then_fun (part_terms d in_condition ns g) (λ cs. then_fun (part_terms d in_body ns k.body) (λ bs. Ok (triple x (list_term cs) (list_term bs))))) t h in
-      let b = then_ok (part_terms d in_condition ns g) (λ cs. then_fun (part_terms d in_body ns k.body) (λ bs. Ok (triple a.0 (list_term cs) (list_term bs)))) t a.2 in
-      let c = then_ok (part_terms d in_body ns k.body) (λ bs. Ok (triple a.0 (list_term b.0) (list_term bs))) t b.2 in
-      let head = head_read k.head a.0 i a.1 in
-      let conditions = row_read d in_condition head.pattern ns head.there g b.0 l b.1 in
-      let body = row_read d in_body head.pattern ns head.there k.body c.0 (exprs_level k.body m) c.1 in
-      subst (λ x. (r : Clause) × (clause_of d x ≡ Ok r)) (same_ok (triple a.0 (list_term b.0) (list_term c.0)) t c.2) (
+      let a = alternative d k g t h in
+      let head = head_read k.head a.head i a.head_is in
+      let conditions = row_read d in_condition head.pattern ns head.there g a.conditions l a.conditions_are in
+      let body = row_read d in_body head.pattern ns head.there k.body a.body (exprs_level k.body m) a.body_is in
+      subst (λ x. (r : Clause) × (clause_of d x ≡ Ok r)) a.is (
         _,
-        ap (λ z. then_read z (λ p. then_read (exprs_of d in_condition p (of_elements b.0)) (λ x. then_read (exprs_of d in_body p (of_elements c.0)) (λ y. Ok (clause_with p x y))))) head.is
-            ∙ ap (λ z. then_read z (λ x. then_read (exprs_of d in_body head.pattern (of_elements c.0)) (λ y. Ok (clause_with head.pattern x y)))) conditions.1
+        ap (λ z. then_read z (λ p. then_read (exprs_of d in_condition p (of_elements a.conditions)) (λ x. then_read (exprs_of d in_body p (of_elements a.body)) (λ y. Ok (clause_with p x y))))) head.is
+            ∙ ap (λ z. then_read z (λ x. then_read (exprs_of d in_body head.pattern (of_elements a.body)) (λ y. Ok (clause_with head.pattern x y)))) conditions.1
             ∙ ap (λ z. then_read z (λ y. Ok (clause_with head.pattern conditions.0 y))) body.1,
       )
 

@@ -1,6 +1,8 @@
 pub mod Results
 pub mod NumberAtoms
 pub mod CallNames
+pub mod ComputedValues
+pub mod Alternatives
 pub mod OperatorBounds
 pub mod ExprReads
 pub mod FunReads

@@ -21,6 +21,7 @@ use Rattle.def_fun.proofs.Translations.{then_ok}
 use Rattle.def_fun_printing.proofs.PrintedTerms.{printed}
 use Rattle.def_fun_printing.proofs.PrintedHeads.{head_printed}
 use Rattle.def_fun_printing.proofs.FunReads.{EachClause, each_clause}
+use Rattle.def_fun_printing.proofs.Alternatives.{alternative}
 use Rattle.def_fun_printing.proofs.Results.{same_ok, no_ok}
 
 -- ---- rows
@@ -88,15 +89,13 @@ module _ (d : Dialect) where
   alternative_printed : (k : FunClause) (g : List FunExpr) (t : Tree) → each_level g ≡ true → are_exprs k.body ≡ true → alternative_term d k g ≡ Ok t → ClausePrinted t
   alternative_printed k g t l m h = λ n.
       let ns = names_of k.head in
-      let a = then_ok (head_term k.head) (λ x. then_fun (part_terms d in_condition ns g) (λ cs. then_fun (part_terms d in_body ns k.body) (λ bs. Ok (triple x (list_term cs) (list_term bs))))) t h in
-      let b = then_ok (part_terms d in_condition ns g) (λ cs. then_fun (part_terms d in_body ns k.body) (λ bs. Ok (triple a.0 (list_term cs) (list_term bs)))) t a.2 in
-      let c = then_ok (part_terms d in_body ns k.body) (λ bs. Ok (triple a.0 (list_term b.0) (list_term bs))) t b.2 in
-      let head = head_printed k.head a.0 a.1 in
-      let conditions = row_printed in_condition ns n the_condition 1 g b.0 l b.1 in
-      let body = body_goes ns n k.body c.0 m c.1 in
-      let cs = of_elements b.0 in
-      let bs = of_elements c.0 in
-      subst (λ x. (u : List ℕ) × (clause_printed d n x ≡ Ok u)) (same_ok (triple a.0 (list_term b.0) (list_term c.0)) t c.2) (
+      let a = alternative d k g t h in
+      let head = head_printed k.head a.head a.head_is in
+      let conditions = row_printed in_condition ns n the_condition 1 g a.conditions l a.conditions_are in
+      let body = body_goes ns n k.body a.body m a.body_is in
+      let cs = of_elements a.conditions in
+      let bs = of_elements a.body in
+      subst (λ x. (u : List ℕ) × (clause_printed d n x ≡ Ok u)) a.is (
         _,
         ap (λ z. then_clause (reason_at n the_head z) (λ p. then_clause (parts_printed d in_condition n the_condition 1 cs) (λ gs. then_clause (body_printed d n bs) (λ es. Ok (clause_text p gs es))))) head.1
             ∙ ap (λ z. then_clause z (λ gs. then_clause (body_printed d n bs) (λ es. Ok (clause_text head.0 gs es)))) conditions.1

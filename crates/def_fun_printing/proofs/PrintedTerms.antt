@@ -24,6 +24,7 @@ use Rattle.def_fun.specs.FunTexts.{OrReason, no_dollar_atom, then_print, numbere
 use Rattle.def_fun.proofs.Translations.{then_ok}
 use Rattle.def_fun_printing.proofs.NumberAtoms.{number_kind}
 use Rattle.def_fun_printing.proofs.CallNames.{plain_call, printed_as_call, call_may, no_const_name, printed_between}
+use Rattle.def_fun_printing.proofs.ComputedValues.{OfValue, of_two, of_one}
 use Rattle.def_fun_printing.proofs.Results.{same_ok, no_ok, print_ok, neither}
 
 -- a term that is printed. `c` is the value that it has as a constant: printing finds no other, but where a list keeps it
@@ -289,51 +290,26 @@ module _ (d : Dialect) (part : Position) where
 
   -- ---- computed values
 
-  abbrev PrintsValue : Computation → Type 0
-  PrintsValue (gives v) = IsPrinted d part v (Some v)
-  PrintsValue c = Unit {0}
+  abbrev IsPrintedValue : Tree → Type 0
+  IsPrintedValue v = IsPrinted d part v (Some v)
 
-  integer_value : (z : ℤ) (b : Bool) → PrintsValue (cond b (gives (term.int z)) gives_too_large)
-  integer_value z true = int_printed z
-  integer_value z false = tt
-
-  any_value : (o : Option ℤ) → PrintsValue (gives_any o)
-  any_value None = tt
-  any_value (Some z) = integer_value z (in_range z)
-
-  truth_printed : (o : Option Bool) → PrintsValue (gives_any_truth o)
-  truth_printed None = tt
-  truth_printed (Some true) = record { expr = tree.atom 0 (codes "true"); is = refl; value = λ v e l. e }
-  truth_printed (Some false) = record { expr = tree.atom 0 (codes "false"); is = refl; value = λ v e l. e }
-
-  either_value : (a b : Computation) → PrintsValue a → PrintsValue b → PrintsValue (or_computed a b)
-  either_value not_computed b p q = q
-  either_value (gives v) b p q = p
-  either_value gives_too_large b p q = p
-
-  two_value : (o : FunOperator) (c k : Option Tree) → PrintsValue (computed_if_two o c k)
-  two_value o None k = tt
-  two_value o (Some v) None = tt
-  two_value o (Some v) (Some u) =
-      either_value (gives_any (if_integers o v u)) _ (any_value (if_integers o v u)) (either_value (gives_any_truth (of_two_terms o v u)) _ (truth_printed (of_two_terms o v u)) (truth_printed (if_truths o (truth_value v) (truth_value u))))
-
-  one_value : (o : FunOperator) (c : Option Tree) → PrintsValue (computed_if_one o c)
-  one_value o None = tt
-  one_value o (Some v) = either_value (gives_any (if_integer o v)) _ (any_value (if_integer o v)) (truth_printed (if_negation o (truth_value v)))
+  truths_printed : (b : Bool) → OfValue IsPrintedValue (gives_any_truth (Some b))
+  truths_printed true = record { expr = tree.atom 0 (codes "true"); is = refl; value = λ v e l. e }
+  truths_printed false = record { expr = tree.atom 0 (codes "false"); is = refl; value = λ v e l. e }
 
   -- what an operator becomes
   between_goes : (at : ℕ) (o : FunOperator) (t u : Tree) (c k : Option Tree) (r : Computation) (x : TranslatedExpr) → computed_if_two o c k ≡ r → is_infix o ≡ true → IsPrinted d part t c → IsPrinted d part u k → operator_translated at o (t ∷ u ∷ []) r ≡ Ok x → IsPrinted d part x.becomes x.constant
-  between_goes at o t u c k (gives v) x e two p q h = subst (λ y. IsPrinted d part y.becomes y.constant) (same_ok (computed_value v) x h) (subst PrintsValue e (two_value o c k))
+  between_goes at o t u c k (gives v) x e two p q h = subst (λ y. IsPrinted d part y.becomes y.constant) (same_ok (computed_value v) x h) (subst (OfValue IsPrintedValue) e (of_two IsPrintedValue int_printed truths_printed o c k))
   between_goes at o t u c k gives_too_large x e two p q h = absurd (no_ok (too_large_at at) x h)
   between_goes at o t u c k not_computed x e two p q h = subst (λ y. IsPrinted d part y.becomes y.constant) (same_ok _ x h) (between_printed o t u c k two p q e)
 
   before_goes : (at : ℕ) (o : FunOperator) (t : Tree) (c : Option Tree) (r : Computation) (x : TranslatedExpr) → computed_if_one o c ≡ r → printed_call d part (operator_name o) 1 ≡ prints_before o → IsPrinted d part t c → operator_translated at o (t ∷ []) r ≡ Ok x → IsPrinted d part x.becomes x.constant
-  before_goes at o t c (gives v) x e call p h = subst (λ y. IsPrinted d part y.becomes y.constant) (same_ok (computed_value v) x h) (subst PrintsValue e (one_value o c))
+  before_goes at o t c (gives v) x e call p h = subst (λ y. IsPrinted d part y.becomes y.constant) (same_ok (computed_value v) x h) (subst (OfValue IsPrintedValue) e (of_one IsPrintedValue int_printed truths_printed o c))
   before_goes at o t c gives_too_large x e call p h = absurd (no_ok (too_large_at at) x h)
   before_goes at o t c not_computed x e call p h = subst (λ y. IsPrinted d part y.becomes y.constant) (same_ok _ x h) (before_printed o t c call p e)
 
   minus_goes : (at : ℕ) (t : Tree) (c : Option Tree) (r : Computation) (x : TranslatedExpr) → computed_if_one op.minus c ≡ r → prefix_translated at op.minus t r ≡ Ok x → IsPrinted d part x.becomes x.constant
-  minus_goes at t c (gives v) x e h = subst (λ y. IsPrinted d part y.becomes y.constant) (same_ok (computed_value v) x h) (subst PrintsValue e (one_value op.minus c))
+  minus_goes at t c (gives v) x e h = subst (λ y. IsPrinted d part y.becomes y.constant) (same_ok (computed_value v) x h) (subst (OfValue IsPrintedValue) e (of_one IsPrintedValue int_printed truths_printed op.minus c))
   minus_goes at t c gives_too_large x e h = absurd (no_ok (too_large_at at) x h)
   minus_goes at t c not_computed x e h = absurd (no_ok _ x h)
 

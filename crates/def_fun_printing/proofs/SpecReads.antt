@@ -25,6 +25,7 @@ use Rattle.def_fun.proofs.NumberedNames.{same_name}
 use Rattle.def_fun.proofs.Translations.{then_ok}
 use Rattle.def_fun_printing.proofs.Results.{same_ok, no_ok, read_ok}
 use Rattle.def_fun_printing.proofs.NumberAtoms.{number_kind}
+use Rattle.def_fun_printing.proofs.ComputedValues.{OfValue, of_two, of_one}
 use Rattle.def_fun_printing.proofs.CallNames.{call_may, plain_call, no_const_name}
 
 -- ---- calls
@@ -209,52 +210,27 @@ module _ (d : Dialect) (part : Position) (head : Pattern) where
   between_named : (o : FunOperator) → is_infix o ≡ true → is_read (named_call d part (operator_name o) 2) ≡ true
   between_named o h = between_in d part o h
 
-  abbrev ReadsValue : Computation → Type 0
-  ReadsValue (gives v) = IsRead v
-  ReadsValue c = Unit {0}
+  integers_read : (z : ℤ) → IsRead (term.int z)
+  integers_read z = (_, refl)
 
-  integer_read : (z : ℤ) (b : Bool) → ReadsValue (cond b (gives (term.int z)) gives_too_large)
-  integer_read z true = (_, refl)
-  integer_read z false = tt
+  truths_read : (b : Bool) → OfValue IsRead (gives_any_truth (Some b))
+  truths_read true = (_, refl)
+  truths_read false = (_, refl)
 
-  any_read : (o : Option ℤ) → ReadsValue (gives_any o)
-  any_read None = tt
-  any_read (Some z) = integer_read z (in_range z)
-
-  truth_read : (o : Option Bool) → ReadsValue (gives_any_truth o)
-  truth_read None = tt
-  truth_read (Some true) = (_, refl)
-  truth_read (Some false) = (_, refl)
-
-  either_read : (a b : Computation) → ReadsValue a → ReadsValue b → ReadsValue (or_computed a b)
-  either_read not_computed b p q = q
-  either_read (gives v) b p q = p
-  either_read gives_too_large b p q = p
-
-  two_read : (o : FunOperator) (c k : Option Tree) → ReadsValue (computed_if_two o c k)
-  two_read o None k = tt
-  two_read o (Some v) None = tt
-  two_read o (Some v) (Some u) =
-      either_read (gives_any (if_integers o v u)) _ (any_read (if_integers o v u)) (either_read (gives_any_truth (of_two_terms o v u)) _ (truth_read (of_two_terms o v u)) (truth_read (if_truths o (truth_value v) (truth_value u))))
-
-  one_read : (o : FunOperator) (c : Option Tree) → ReadsValue (computed_if_one o c)
-  one_read o None = tt
-  one_read o (Some v) = either_read (gives_any (if_integer o v)) _ (any_read (if_integer o v)) (truth_read (if_negation o (truth_value v)))
-
-  operator_read : (at : ℕ) (o : FunOperator) (ts : List Tree) (r : Computation) (x : TranslatedExpr) → is_read (named_call d part (operator_name o) (count (of_elements ts))) ≡ true → AreRead (of_elements ts) → ReadsValue r → operator_translated at o ts r ≡ Ok x → IsRead x.becomes
+  operator_read : (at : ℕ) (o : FunOperator) (ts : List Tree) (r : Computation) (x : TranslatedExpr) → is_read (named_call d part (operator_name o) (count (of_elements ts))) ≡ true → AreRead (of_elements ts) → OfValue IsRead r → operator_translated at o ts r ≡ Ok x → IsRead x.becomes
   operator_read at o ts (gives v) x named p q h = subst (λ y. IsRead y.becomes) (same_ok (computed_value v) x h) q
   operator_read at o ts gives_too_large x named p q h = absurd (no_ok (too_large_at at) x h)
   operator_read at o ts not_computed x named p q h = subst (λ y. IsRead y.becomes) (same_ok _ x h) (called_read (operator_name o) (of_elements ts) (no_const_name o) named p)
 
-  minus_read : (at : ℕ) (t : Tree) (r : Computation) (x : TranslatedExpr) → ReadsValue r → prefix_translated at op.minus t r ≡ Ok x → IsRead x.becomes
+  minus_read : (at : ℕ) (t : Tree) (r : Computation) (x : TranslatedExpr) → OfValue IsRead r → prefix_translated at op.minus t r ≡ Ok x → IsRead x.becomes
   minus_read at t (gives v) x q h = subst (λ y. IsRead y.becomes) (same_ok (computed_value v) x h) q
   minus_read at t gives_too_large x q h = absurd (no_ok (too_large_at at) x h)
   minus_read at t not_computed x q h = absurd (no_ok _ x h)
 
   prefix_read : (at : ℕ) (o : FunOperator) (t : Tree) (c : Option Tree) (x : TranslatedExpr) → is_prefix o ≡ true → IsRead t → prefix_translated at o t (computed_if_one o c) ≡ Ok x → IsRead x.becomes
-  prefix_read at op.minus t c x one p h = minus_read at t (computed_if_one op.minus c) x (one_read op.minus c) h
-  prefix_read at op.bit_not t c x one p h = operator_read at op.bit_not (t ∷ []) (computed_if_one op.bit_not c) x (not_in d part) (more_read t term.none p (_, refl)) (one_read op.bit_not c) h
-  prefix_read at op.negation t c x one p h = operator_read at op.negation (t ∷ []) (computed_if_one op.negation c) x (negation_in d part) (more_read t term.none p (_, refl)) (one_read op.negation c) h
+  prefix_read at op.minus t c x one p h = minus_read at t (computed_if_one op.minus c) x (of_one IsRead integers_read truths_read op.minus c) h
+  prefix_read at op.bit_not t c x one p h = operator_read at op.bit_not (t ∷ []) (computed_if_one op.bit_not c) x (not_in d part) (more_read t term.none p (_, refl)) (of_one IsRead integers_read truths_read op.bit_not c) h
+  prefix_read at op.negation t c x one p h = operator_read at op.negation (t ∷ []) (computed_if_one op.negation c) x (negation_in d part) (more_read t term.none p (_, refl)) (of_one IsRead integers_read truths_read op.negation c) h
   prefix_read at o t c x one p h = absurd (let no : false ≡ true = one in cc)
 
   -- ---- expressions
@@ -332,7 +308,7 @@ module _ (d : Dialect) (part : Position) (head : Pattern) where
           let b = then_ok (expr_translated d part ns g) (λ z. operator_translated at o (a.0.becomes ∷ z.becomes ∷ []) (computed_if_two o a.0.constant z.constant)) x a.2 in
           operator_read at o (a.0.becomes ∷ b.0.becomes ∷ []) (computed_if_two o a.0.constant b.0.constant) x (between_named o parts.0)
           (more_read a.0.becomes (term.more b.0.becomes term.none) (expr_read f (left_level binding) a.0 levels.0 a.1) (more_read b.0.becomes term.none (expr_read g (right_level binding) b.0 levels.1 b.1) (_, refl)))
-          (two_read o a.0.constant b.0.constant) b.2
+          (of_two IsRead integers_read truths_read o a.0.constant b.0.constant) b.2
 
       pub exprs_read : (es : FunExprs) (xs : List TranslatedExpr) → have_levels es ≡ true → exprs_translated d part ns es ≡ Ok xs → AreRead (of_elements (all_terms xs))
       exprs_read tree.none xs l h = subst (λ ys. AreRead (of_elements (all_terms ys))) (same_ok [] xs h) (_, refl)
