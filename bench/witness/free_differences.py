@@ -156,7 +156,7 @@ class UnlinkedBeforeTheEnd(FreeDifference):
         return sorted(partners, key=lambda partner: reasons.get(partner) != reasons[pid])
 
 
-# Those that are tried first stand first.
+# Those that are tried first stand first. The last one leaves out the most.
 DIFFERENCES = [
     LinkToItself(),
     ReceivesLater(),
@@ -201,9 +201,10 @@ class Question:
 
 
 def sets_of(differences):
-    """The sets of differences, small ones first."""
-    for count in range(1, len(differences) + 1):
-        yield from itertools.combinations(differences, count)
+    """The sets of differences, small ones first; those with the last difference come after all others."""
+    counts = range(1, len(differences) + 1)
+    found = [chosen for count in counts for chosen in itertools.combinations(differences, count)]
+    return sorted(found, key=lambda chosen: DIFFERENCES[-1] in chosen)
 
 
 def explaining(case, session, trace, program):
