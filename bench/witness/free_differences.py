@@ -130,18 +130,31 @@ class NoProcess(FreeDifference):
 
 
 class UnlinkedBeforeTheEnd(FreeDifference):
-    """An exit signal is taken at the process's next step: the lost link is reported first, of which a node says nothing."""
+    """An exit signal is taken at the process's next step: on a node when it comes, which can be later.
+
+    The lost link is reported first, of which a node says nothing. Before a late signal a process can send messages to the
+    one that has ended.
+    """
 
     def versions(self, trace):
         reasons = {message[1]: message[3] for message in trace.messages if kind_of(message) == "exit"}
-        ends = [(at, message[1]) for at, message in enumerate(trace.messages) if self.may_be_ended(message)]
-        choices = [self.lost(trace, pid, reasons) for _, pid in ends]
-        for lost in itertools.product(*choices):
-            messages = list(trace.messages)
-            for (at, pid), partner in reversed(list(zip(ends, lost))):
-                if partner:
-                    messages.insert(at, (Atom("trace"), pid, Atom("getting_unlinked"), partner))
-            yield trace.with_messages(messages)
+        pids = [message[1] for message in trace.messages if self.may_be_ended(message)]
+        for lost in itertools.product(*(self.lost(trace, pid, reasons) for pid in pids)):
+            pairs = {pid: partner for pid, partner in zip(pids, lost) if partner}
+            unlinked = trace.with_messages([each for message in trace.messages for each in self.unlinked(message, pairs)])
+            yield unlinked
+            yield unlinked.with_messages([self.sent(message, pairs) for message in unlinked.messages])
+
+    def unlinked(self, message, pairs):
+        """The message, after that of the lost link where it is of an end by a signal."""
+        if kind_of(message) == "exit" and message[1] in pairs:
+            yield (Atom("trace"), message[1], Atom("getting_unlinked"), pairs[message[1]])
+        yield message
+
+    def sent(self, message, pairs):
+        """The message, as one to a living process where a process was to end already."""
+        is_late = kind_of(message) == "send_to_non_existing_process" and pairs.get(message[1]) == message[4]
+        return (*message[:2], Atom("send"), *message[3:]) if is_late else message
 
     def may_be_ended(self, message):
         """A process ends, perhaps by an exit signal."""
