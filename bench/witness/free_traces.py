@@ -105,8 +105,7 @@ class FreeProgram:
 
     def explain(self, script, journal):
         """The account of the run that begins with a journal and goes on to rest."""
-        words = ["explain", "--moves", f"{journal} *"]
-        return self.ran(words, script).stdout.decode()
+        return self.ran(["explain", "--moves", f"{journal} *".strip()], script).stdout.decode()
 
     def listing(self, script, journal, session):
         """The messages of a session in the run of a journal."""
