@@ -33,6 +33,16 @@ class FreeChooser(ScriptChooser):
 
     STARTED = (2, 4)
 
+    def partner(self, pids):
+        """The pid of a link: a variable, since a constant is often the process itself."""
+        return self.one([pid for pid in pids if pid != "Self"])
+
+    def process(self, number):
+        """One of the first processes, with the pid of another one."""
+        module, name, arguments = super().process(number)
+        others = [Pid(100 + other) for other in range(self.started) if other != number]
+        return module, name, [self.one(others), *arguments[1:]]
+
     def first_command(self):
         command = super().first_command()
         if self.often(0.5):

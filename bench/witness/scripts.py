@@ -92,8 +92,7 @@ class ScriptChooser:
         elif kind == "spawn":
             function.steps.append(self.spawn(self.one(later), pids, values))
         elif kind in ("link", "unlink"):
-            others = pids if self.often(0.1) else [pid for pid in pids if pid != "Self"]
-            function.steps.append((Atom(kind), self.pid(others)))
+            function.steps.append((Atom(kind), self.partner(pids)))
         else:
             reason = self.one([Atom("boom"), Atom("normal"), 7]) if kind == "exit" else self.value(pids, values)
             function.steps.append((Atom(kind), reason))
@@ -106,6 +105,10 @@ class ScriptChooser:
         if self.often(0.6):
             return self.one(pids)
         return Pid(163) if self.often(0.06) else Pid(100 + self.chance.randrange(self.started))
+
+    def partner(self, pids):
+        """The pid of a link: seldom the process itself."""
+        return self.pid(pids if self.often(0.1) else [pid for pid in pids if pid != "Self"])
 
     def value(self, pids, values):
         """A template."""
