@@ -80,12 +80,13 @@ def listed(lines):
 
 
 class Node:
-    """A node in a root, which answers questions, each a term, with so many schedulers."""
+    """A node in a root with so many schedulers, which answers questions, each a term, within so many seconds."""
 
-    def __init__(self, root, gate=GATES[-1], schedulers=1):
+    def __init__(self, root, gate=GATES[-1], schedulers=1, seconds=SECONDS):
         self.root = pathlib.Path(root).absolute()
         self.gate = gate
         self.schedulers = schedulers
+        self.seconds = seconds
         self.folder = pathlib.Path(tempfile.mkdtemp(prefix="node_gate.", dir=self.root / "tmp"))
         self.within = f"/tmp/{self.folder.name}"
         for name in GATES:
@@ -113,7 +114,7 @@ class Node:
 
     def ask(self, question):
         """The answer to a question. Where the node ends, the next question is asked of a new one."""
-        watch = threading.Timer(SECONDS, self.process.kill)
+        watch = threading.Timer(self.seconds, self.process.kill)
         watch.start()
         try:
             self.process.stdin.write(node_text(question) + ".\n")
