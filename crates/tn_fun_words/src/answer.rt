@@ -2,7 +2,6 @@
 ghost use Rattle.std.specs.Prelude.{IfOk, MatchResult};
 ghost use Rattle.tn_verdict.specs.SpecTestInputs.{AreTermsOf, IsAnswerTo, IsNoAnswer};
 ghost use Rattle.tn_fun_words.specs.FunAnswers.{IsFunAnswerTo};
-ghost use Rattle.tn_fun_words.specs.Views.{text_of_fun};
 
 use crate::fun_words::FunWords;
 use crate::reason::after_front;
@@ -24,7 +23,7 @@ fn in_words<A: Allocator + Copy>(
     plain: &[u8],
 ) -> Result<Vec<u8, A>, AllocError>
     ensures { IfOk result (λ v. AreTermsOf question.now terms.now → IsAnswerTo question.now plain.now
-        → IsFunAnswerTo question.now (text_of_fun fun.now) v.items) }
+        → IsFunAnswerTo question.now fun.now.bytes.now v.items) }
 {
     let alive = Alive::first(PROCESSES);
     let flags = spec_test_flags(question.dialect, question.self_pid);
@@ -54,7 +53,7 @@ pub fn answer_in_words<A: Allocator + Copy>(
     question: &SpecTestInput<'_>,
     fun: &FunWords<'_, A>,
 ) -> Result<Vec<u8, A>, SpecTestFault<A>>
-    ensures { MatchResult result (λ text. IsFunAnswerTo question.now (text_of_fun fun.now) text.items)
+    ensures { MatchResult result (λ text. IsFunAnswerTo question.now fun.now.bytes.now text.items)
         (λ fault. IsNoAnswer question.now fault) }
 {
     let plain = answer(alloc, question)?;
