@@ -65,7 +65,7 @@ one_refusal bytes (texts.TooLarge at) (texts.TooDeep there) p q r s = let k = on
 
 -- ---- what each text is
 
-one_list : (bytes : List ℕ) (ts us : List Tree) → IsList bytes ts → IsList bytes us → ts ≡ us
+pub one_list : (bytes : List ℕ) (ts us : List Tree) → IsList bytes ts → IsList bytes us → ts ≡ us
 one_list bytes ts us p q =
     let e : list (of_elements ts) ≡ list (of_elements us) = one bytes _ _ p q in
     let f : of_elements ts ≡ of_elements us = cc in
@@ -78,7 +78,7 @@ one_function f g e =
     let of_arity : f.arity ≡ g.arity = cc in
     λ i. record { module_name = of_module i; function_name = of_name i; arity = of_arity i }
 
-one_caller : (text : Option (Bor (List ℕ))) (f g : Option Mfa) → caller_is text f → caller_is text g → f ≡ g
+pub one_caller : (text : Option (Bor (List ℕ))) (f g : Option Mfa) → caller_is text f → caller_is text g → f ≡ g
 one_caller None None None p q = refl
 one_caller None None (Some g) p q = absurd q
 one_caller None (Some f) g p q = absurd p
@@ -86,7 +86,7 @@ one_caller (Some bytes) None g p q = absurd p
 one_caller (Some bytes) (Some f) None p q = absurd q
 one_caller (Some bytes) (Some f) (Some g) p q = ap Some (one_function f g (one bytes.now _ _ p.0 q.0))
 
-one_specification : (bytes : List ℕ) (d : Dialect) (s t : outcome.Spec) → IsSpecification bytes d s → IsSpecification bytes d t → s ≡ t
+pub one_specification : (bytes : List ℕ) (d : Dialect) (s t : outcome.Spec) → IsSpecification bytes d s → IsSpecification bytes d t → s ≡ t
 one_specification bytes d s t p q =
     let e : p.0 ≡ q.0 = one bytes p.0 q.0 p.1 q.1 in
     let read : spec_of (dialect_of d) q.0 ≡ Ok s = subst (λ u. spec_of (dialect_of d) u ≡ Ok s) e p.2 in
