@@ -2,7 +2,7 @@ use Rattle.std.proofs.Common.{ap, sym, ◌∙◌}
 use Rattle.def_fun.specs.Trees.{first_byte}
 use Rattle.tn_fun.specs.Trees.{fun_expr_seen}
 use Rattle.tn_fun.proofs.TreeViews.{seen_between}
-use Rattle.tn_translation.proofs.tails.+first.Goals as goal
+use Rattle.tn_fun.proofs.offset.+first.Goals as goal
 
 pub returns-in-Between : goal.returns-in-Between
 returns-in-Between g t c = λ text.

@@ -3,8 +3,8 @@ ghost use Rattle.std.specs.Prelude.{◌≡◌, ℕ, List};
 ghost use Rattle.def_fun.specs.Trees.{first_byte as first_byte_of};
 ghost use Rattle.tn_fun.specs.Trees.{fun_expr_seen};
 
+use crate::tree::Expr;
 use std::alloc::Allocator;
-use tn_fun::Expr;
 
 /// The offset of the first byte of an expression.
 #[cycle(first)]
