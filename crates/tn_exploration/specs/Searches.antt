@@ -1,14 +1,14 @@
 -- What a search answers about the sessions at some places.
 -- Depends on searches through all schedules, and on the texts of their answers.
-use Rattle.std.specs.Prelude.{◌≡◌, ℕ, Bool, true, false, List, Option, Some, None, is_some}
+use Rattle.std.specs.Prelude.{◌≡◌, ℕ, Bool, true, false, List, Option, Some, None}
 use Rattle.std.specs.Option.{option_map}
 use Rattle.def_term.specs.Names.{Name}
 use Rattle.def_script.specs.Program.{Program}
 use Rattle.def_explore.specs.Answers.{RestEntry}
 use Rattle.def_compare.specs.Traces.{TraceQuestion, begins_trace}
 use Rattle.def_compare.specs.Entries.{Match, possible_by}
-use Rattle.def_compare.specs.Output.{comparison_text}
-use Rattle.def_compare.specs.Answers.{SearchQuestion, about_trace, answer_text, admits_for, is_settled, is_unmet}
+use Rattle.def_compare.specs.Answers.{SearchQuestion, about_trace, admits_for, is_settled, is_unmet}
+use Rattle.def_compare.specs.AnswerRows.{AnswerForm, answer_in}
 use Rattle.tn_answers.specs.declared.text.SearchAnswer.{SearchAnswer}
 use Rattle.tn_explore.specs.Searches.{Explores}
 use Rattle.tn_search.specs.States.{query_of}
@@ -24,12 +24,12 @@ abbrev pub search_text_seen : {A : Type 0} → SearchAnswer A → SearchText
 search_text_seen a = record { text = a.text.items; settled = a.is_settled; unmet = a.is_unmet }
 
 -- that of a search through all schedules that begin with a journal
-pub record IsTextOfSearch (ss : List (Name × Name)) (q : SearchQuestion) (b : Bool) (p : Program) (before places : List ℕ) (max_states : ℕ) (t : SearchText) : Type 0 where
+pub record IsTextOfSearch (form : AnswerForm) (ss : List (Name × Name)) (q : SearchQuestion) (b : Bool) (p : Program) (before places : List ℕ) (max_states : ℕ) (t : SearchText) : Type 0 where
   pub entries : List RestEntry
   pub states : ℕ
   pub whole : Bool
   pub search : Explores (query_of (admits_for q) b p before places) entries max_states states whole
-  pub written : t ≡ record { text = answer_text ss q entries states whole; settled = is_settled q entries whole; unmet = is_unmet q entries whole }
+  pub written : t ≡ record { text = answer_in form ss q entries states whole; settled = is_settled q entries whole; unmet = is_unmet q entries whole }
 
 -- ---- a run that shows a trace in its own order
 
@@ -49,28 +49,32 @@ abbrev pub IsRunInOrder : TraceQuestion → Program → (before places : List �
 IsRunInOrder a p before places max_states o =
     (found : Option Match) × (states : ℕ) × IsSearchInOrder a p before places max_states found states × (o ≡ option_map (λ m. (m.entry.journal, states)) found)
 
--- the text of the entries, where one shows the trace
-abbrev pub text_in_order : List (Name × Name) → TraceQuestion → List RestEntry → ℕ → Option Match → Option SearchText
-text_in_order ss a es states None = None
-text_in_order ss a es states (Some m) = Some (record { text = comparison_text ss a es states false; settled = true; unmet = false })
+-- the text, where there is an entry that shows the trace
+abbrev pub text_by_match : List ℕ → Option Match → Option SearchText
+text_by_match text None = None
+text_by_match text (Some m) = Some (record { text = text; settled = true; unmet = false })
+
+-- that of the entries
+abbrev pub text_with_run : AnswerForm → List (Name × Name) → TraceQuestion → List RestEntry → ℕ → Bool → Option SearchText
+text_with_run form ss a es states whole = text_by_match (answer_in form ss (about_trace a) es states whole) (possible_by a es)
 
 -- the entries of a search by process that goes on from the journal, with their text
-pub record IsTextAfter (ss : List (Name × Name)) (a : TraceQuestion) (p : Program) (places : List ℕ) (max_states : ℕ) (run : List ℕ × ℕ) (o : Option SearchText) : Type 0 where
+pub record IsTextAfter (form : AnswerForm) (ss : List (Name × Name)) (a : TraceQuestion) (p : Program) (places : List ℕ) (max_states : ℕ) (run : List ℕ × ℕ) (o : Option SearchText) : Type 0 where
   pub entries : List RestEntry
   pub states : ℕ
   pub whole : Bool
   pub search : Explores (query_of (begins_trace a.messages) true p run.0 places) entries max_states states whole
-  pub written : o ≡ text_in_order ss a entries run.1 (possible_by a entries)
+  pub written : o ≡ text_with_run form ss a entries run.1 false
 
 -- that after a run; without one there is none
-abbrev pub IsTextAfterRun : List (Name × Name) → TraceQuestion → Program → List ℕ → ℕ → Option (List ℕ × ℕ) → Option SearchText → Type 0
-IsTextAfterRun ss a p places max_states None o = o ≡ None
-IsTextAfterRun ss a p places max_states (Some run) o = IsTextAfter ss a p places max_states run o
+abbrev pub IsTextAfterRun : AnswerForm → List (Name × Name) → TraceQuestion → Program → List ℕ → ℕ → Option (List ℕ × ℕ) → Option SearchText → Type 0
+IsTextAfterRun form ss a p places max_states None o = o ≡ None
+IsTextAfterRun form ss a p places max_states (Some run) o = IsTextAfter form ss a p places max_states run o
 
 -- the text of a run that shows the trace by process, found by its own order
-abbrev pub IsTextInOrder : List (Name × Name) → TraceQuestion → Program → (before places : List ℕ) → ℕ → Option SearchText → Type 0
-IsTextInOrder ss a p before places max_states o =
-    (run : Option (List ℕ × ℕ)) × IsRunInOrder a p before places max_states run × IsTextAfterRun ss a p places max_states run o
+abbrev pub IsTextInOrder : AnswerForm → List (Name × Name) → TraceQuestion → Program → (before places : List ℕ) → ℕ → Option SearchText → Type 0
+IsTextInOrder form ss a p before places max_states o =
+    (run : Option (List ℕ × ℕ)) × IsRunInOrder a p before places max_states run × IsTextAfterRun form ss a p places max_states run o
 
 -- ---- the answer
 
@@ -80,15 +84,15 @@ trace_by_process (about_trace a) true = Some a
 trace_by_process q b = None
 
 -- such a run is looked for first
-abbrev pub IsTextBefore : List (Name × Name) → Program → (before places : List ℕ) → ℕ → Option TraceQuestion → Option SearchText → Type 0
-IsTextBefore ss p before places max_states None o = o ≡ None
-IsTextBefore ss p before places max_states (Some a) o = IsTextInOrder ss a p before places max_states o
+abbrev pub IsTextBefore : AnswerForm → List (Name × Name) → Program → (before places : List ℕ) → ℕ → Option TraceQuestion → Option SearchText → Type 0
+IsTextBefore form ss p before places max_states None o = o ≡ None
+IsTextBefore form ss p before places max_states (Some a) o = IsTextInOrder form ss a p before places max_states o
 
 -- where there is none, the search goes through all schedules in the order that is asked for
-abbrev pub IsTextElse : List (Name × Name) → SearchQuestion → Bool → Program → (before places : List ℕ) → ℕ → Option SearchText → SearchText → Type 0
-IsTextElse ss q b p before places max_states (Some u) t = t ≡ u
-IsTextElse ss q b p before places max_states None t = IsTextOfSearch ss q b p before places max_states t
+abbrev pub IsTextElse : AnswerForm → List (Name × Name) → SearchQuestion → Bool → Program → (before places : List ℕ) → ℕ → Option SearchText → SearchText → Type 0
+IsTextElse form ss q b p before places max_states (Some u) t = t ≡ u
+IsTextElse form ss q b p before places max_states None t = IsTextOfSearch form ss q b p before places max_states t
 
-abbrev pub IsAnswerText : List (Name × Name) → SearchQuestion → Bool → Program → (before places : List ℕ) → ℕ → SearchText → Type 0
-IsAnswerText ss q b p before places max_states t =
-    (o : Option SearchText) × IsTextBefore ss p before places max_states (trace_by_process q b) o × IsTextElse ss q b p before places max_states o t
+abbrev pub IsAnswerText : AnswerForm → List (Name × Name) → SearchQuestion → Bool → Program → (before places : List ℕ) → ℕ → SearchText → Type 0
+IsAnswerText form ss q b p before places max_states t =
+    (o : Option SearchText) × IsTextBefore form ss p before places max_states (trace_by_process q b) o × IsTextElse form ss q b p before places max_states o t

@@ -4,13 +4,17 @@ ghost use Rattle.std.specs.Option.{option_map};
 ghost use Rattle.tn_program.specs.Views.{program_of};
 ghost use Rattle.tn_answers.specs.AnswerViews.{session_name_seen};
 ghost use Rattle.tn_comparison.specs.Matches.{trace_question_seen};
-ghost use Rattle.tn_exploration.specs.Searches.{IsRunInOrder, IsTextAfter, IsTextInOrder};
-ghost use Rattle.tn_exploration.specs.Searches.{run_in_order_seen, search_text_seen};
+ghost use Rattle.tn_answers.specs.SearchAnswers.{form_seen};
+ghost use Rattle.tn_explore.specs.Searches.{answer_entries};
+ghost use Rattle.tn_messages.specs.MessageViews.{kept_seen};
+ghost use Rattle.tn_exploration.specs.Searches.{IsRunInOrder, IsTextInOrder};
+ghost use Rattle.tn_exploration.specs.Searches.{run_in_order_seen, search_text_seen, text_with_run};
 
 use std::alloc::{AllocError, Allocator, Global};
-use tn_answers::{SearchAnswer, SearchQuestion, SessionName, search_answer};
+use tn_answers::{AnswerForm, SearchAnswer, SearchQuestion, SessionName, search_answer};
 use tn_comparison::{TraceQuestion, possible_by};
 use tn_explore::Exploration;
+use tn_messages::KeptListings;
 use tn_program::Program;
 use tn_search::{ListingOrder, SearchPlan, explore_program};
 
@@ -51,19 +55,49 @@ fn run_in_order<A: Allocator + Copy>(
     }))
 }
 
-/// What the runs that go on from this one answer by process, where one shows the trace.
-fn answer_after<A: Allocator + Copy>(
+/// What an exploration answers, where one of its runs shows the trace.
+fn answer_with_run<A: Allocator + Copy>(
+    alloc: A,
+    names: &[SessionName<A>],
+    trace: &TraceQuestion<Global>,
+    exploration: &Exploration<A, KeptListings<A>>,
+    form: AnswerForm,
+) -> Result<Option<SearchAnswer<A>>, AllocError>
+    ensures { let e = exploration.now in let es = answer_entries kept_seen e.answers.entries in
+        let ss = map session_name_seen names.now in IfOk result (λ o. option_map search_text_seen o ≡
+        text_with_run (form_seen form) ss (trace_question_seen trace.now) es e.states e.is_complete) }
+{
+    let answer = search_answer(
+        alloc,
+        names,
+        &SearchQuestion::Trace(trace),
+        exploration,
+        form,
+    )?;
+    if answer.is_unmet || !answer.is_settled {
+        Ok(None)
+    } else {
+        Ok(Some(answer))
+    }
+}
+
+/// The answer of a run that shows the trace by process, found by the trace's own order; None where there is none. It
+/// tells how many states were met before the run was found.
+pub(crate) fn answer_in_order<A: Allocator + Copy>(
     alloc: A,
     program: &Program<A>,
     names: &[SessionName<A>],
     trace: &TraceQuestion<Global>,
     plan: &SearchPlan<'_>,
-    run: &RunInOrder<A>,
+    form: AnswerForm,
 ) -> Result<Option<SearchAnswer<A>>, AllocError>
     ensures { let a = trace_question_seen trace.now in let p = program_of program.now in
-        let ss = map session_name_seen names.now in IfOk result (λ o. IsTextAfter ss a p plan.now.places.now
-        plan.now.max_states (run_in_order_seen run.now) (option_map search_text_seen o)) }
+        let ss = map session_name_seen names.now in IfOk result (λ o. IsTextInOrder (form_seen form) ss a p
+        plan.now.before.now plan.now.places.now plan.now.max_states (option_map search_text_seen o)) }
 {
+    let Some(run) = run_in_order(alloc, program, trace, plan)? else {
+        return Ok(None);
+    };
     let plan = SearchPlan {
         before: &run.journal,
         order: ListingOrder::ByProcess,
@@ -76,28 +110,5 @@ fn answer_after<A: Allocator + Copy>(
         states: run.states,
         is_complete: false,
     };
-    let answer = search_answer(alloc, names, &SearchQuestion::Trace(trace), &exploration)?;
-    if answer.is_settled {
-        Ok(Some(answer))
-    } else {
-        Ok(None)
-    }
-}
-
-/// The answer of a run that shows the trace by process, found by the trace's own order; None where there is none.
-pub(crate) fn answer_in_order<A: Allocator + Copy>(
-    alloc: A,
-    program: &Program<A>,
-    names: &[SessionName<A>],
-    trace: &TraceQuestion<Global>,
-    plan: &SearchPlan<'_>,
-) -> Result<Option<SearchAnswer<A>>, AllocError>
-    ensures { let a = trace_question_seen trace.now in let p = program_of program.now in
-        let ss = map session_name_seen names.now in IfOk result (λ o. IsTextInOrder ss a p plan.now.before.now
-        plan.now.places.now plan.now.max_states (option_map search_text_seen o)) }
-{
-    let Some(run) = run_in_order(alloc, program, trace, plan)? else {
-        return Ok(None);
-    };
-    answer_after(alloc, program, names, trace, plan, &run)
+    answer_with_run(alloc, names, trace, &exploration, form)
 }

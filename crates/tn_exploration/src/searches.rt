@@ -4,7 +4,7 @@ ghost use Rattle.std.specs.Option.{option_map};
 ghost use Rattle.tn_program.specs.Views.{program_of};
 ghost use Rattle.def_compare.specs.Answers.{admits_for};
 ghost use Rattle.tn_answers.specs.AnswerViews.{session_name_seen};
-ghost use Rattle.tn_answers.specs.SearchAnswers.{search_question_seen};
+ghost use Rattle.tn_answers.specs.SearchAnswers.{form_seen, search_question_seen};
 ghost use Rattle.tn_search.specs.States.{ExploresPlan, is_by_process};
 ghost use Rattle.tn_exploration.specs.Requests.{AddsSearch, AddsSearches, groups_of};
 ghost use Rattle.tn_exploration.specs.Searches.{IsAnswerText, IsTextBefore, search_text_seen, trace_by_process};
@@ -13,7 +13,7 @@ use crate::in_order::answer_in_order;
 use crate::request::ExploreRequest;
 use crate::sessions::names_at;
 use std::alloc::{AllocError, Allocator, Global};
-use tn_answers::{SearchAnswer, SearchQuestion, SessionName, search_answer};
+use tn_answers::{AnswerForm, SearchAnswer, SearchQuestion, SessionName, search_answer};
 use tn_explore::Exploration;
 use tn_messages::{AllRuns, KeptListings};
 use tn_program::Program;
@@ -51,14 +51,15 @@ fn answer_before<A: Allocator + Copy>(
     names: &[SessionName<A>],
     question: &SearchQuestion<'_, Global>,
     plan: &SearchPlan<'_>,
+    form: AnswerForm,
 ) -> Result<Option<SearchAnswer<A>>, AllocError>
     ensures { let trace = trace_by_process (search_question_seen question.now) (is_by_process plan.now.order) in
-        let ss = map session_name_seen names.now in IfOk result (λ o. IsTextBefore ss (program_of program.now)
+        let ss = map session_name_seen names.now in IfOk result (λ o. IsTextBefore (form_seen form) ss (program_of program.now)
         plan.now.before.now plan.now.places.now plan.now.max_states trace (option_map search_text_seen o)) }
 {
     match (question, plan.order) {
         (SearchQuestion::Trace(trace), ListingOrder::ByProcess) => {
-            answer_in_order(alloc, program, names, trace, plan)
+            answer_in_order(alloc, program, names, trace, plan, form)
         }
         _ => Ok(None),
     }
@@ -72,16 +73,17 @@ fn answer_of<A: Allocator + Copy>(
     names: &[SessionName<A>],
     question: &SearchQuestion<'_, Global>,
     plan: &SearchPlan<'_>,
+    form: AnswerForm,
 ) -> Result<SearchAnswer<A>, AllocError>
     ensures { let q = search_question_seen question.now in let b = is_by_process plan.now.order in
-        let ss = map session_name_seen names.now in IfOk result (λ a. IsAnswerText ss q b (program_of program.now)
+        let ss = map session_name_seen names.now in IfOk result (λ a. IsAnswerText (form_seen form) ss q b (program_of program.now)
         plan.now.before.now plan.now.places.now plan.now.max_states (search_text_seen a)) }
 {
-    if let Some(answer) = answer_before(alloc, program, names, question, plan)? {
+    if let Some(answer) = answer_before(alloc, program, names, question, plan, form)? {
         return Ok(answer);
     }
     let exploration = explore_for(alloc, program, question, plan)?;
-    search_answer(alloc, names, question, &exploration)
+    search_answer(alloc, names, question, &exploration, form)
 }
 
 /// Appends the text of a search about the sessions at some places.
@@ -103,7 +105,14 @@ fn put_search<A: Allocator + Copy>(
         places,
         max_states: request.max_states,
     };
-    let answer = answer_of(alloc, program, &names, &request.question, &plan)?;
+    let answer = answer_of(
+        alloc,
+        program,
+        &names,
+        &request.question,
+        &plan,
+        request.form,
+    )?;
     text.extend_from_slice(&answer.text)?;
     Ok(SearchEnd {
         is_settled: answer.is_settled,
