@@ -1,5 +1,5 @@
 // A run that shows a trace by process, found by the trace's own order.
-ghost use Rattle.std.specs.Prelude.{◌≡◌, IfOk, map};
+ghost use Rattle.std.specs.Prelude.{◌≡◌, ◌&&◌, IfOk, map, not};
 ghost use Rattle.std.specs.Option.{option_map};
 ghost use Rattle.tn_program.specs.Views.{program_of};
 ghost use Rattle.tn_answers.specs.AnswerViews.{session_name_seen};
@@ -55,6 +55,13 @@ fn run_in_order<A: Allocator + Copy>(
     }))
 }
 
+/// Whether an answer has a run that shows its trace.
+fn has_run<A: Allocator>(answer: &SearchAnswer<A>) -> bool
+    ensures { result ≡ (answer.now.is_settled && not answer.now.is_unmet) }
+{
+    answer.is_settled && !answer.is_unmet
+}
+
 /// What an exploration answers, where one of its runs shows the trace.
 fn answer_with_run<A: Allocator + Copy>(
     alloc: A,
@@ -74,10 +81,10 @@ fn answer_with_run<A: Allocator + Copy>(
         exploration,
         form,
     )?;
-    if answer.is_unmet || !answer.is_settled {
-        Ok(None)
-    } else {
+    if has_run(&answer) {
         Ok(Some(answer))
+    } else {
+        Ok(None)
     }
 }
 

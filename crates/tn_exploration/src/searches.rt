@@ -57,11 +57,12 @@ fn answer_before<A: Allocator + Copy>(
         let ss = map session_name_seen names.now in IfOk result (λ o. IsTextBefore (form_seen form) ss (program_of program.now)
         plan.now.before.now plan.now.places.now plan.now.max_states trace (option_map search_text_seen o)) }
 {
-    match (question, plan.order) {
-        (SearchQuestion::Trace(trace), ListingOrder::ByProcess) => {
-            answer_in_order(alloc, program, names, trace, plan, form)
-        }
-        _ => Ok(None),
+    match question {
+        SearchQuestion::Patterns(_) => Ok(None),
+        SearchQuestion::Trace(trace) => match plan.order {
+            ListingOrder::Total => Ok(None),
+            ListingOrder::ByProcess => { answer_in_order(alloc, program, names, trace, plan, form) }
+        },
     }
 }
 
