@@ -2,8 +2,8 @@
 //!
 //! Depends on def_term, def_script, def_run, def_explore and def_renaming. Promises, as laws, that a trace which a
 //! sound entry shows is possible by its journal; that one which no entry shows, where they are complete, is
-//! impossible, so that no run to rest shows it; that a run found by the trace's own order shows the trace by process; and
-//! that the prefix which is found is the longest.
+//! impossible, so that no run to rest shows it; that a run found by the trace's own order shows the trace by process;
+//! and that the prefix which is found is the longest.
 #![tactic(auto)]
 
 ghost use Rattle.def_compare.specs.Laws.{ComputedPairsShow, ShownHasPairs, MatchIsPossible, NoMatchIsImpossible};

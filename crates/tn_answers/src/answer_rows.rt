@@ -117,7 +117,8 @@ pub(crate) fn json_answer<A: Allocator + Copy, N: Allocator, P: Allocator>(
     question: &SearchQuestion<'_, P>,
     exploration: &Exploration<A, KeptListings<A>>,
 ) -> Result<SearchAnswer<A>, AllocError>
-    ensures { IfOk result (IsSearchAnswer json_answer sessions.now (search_question_seen question.now) exploration.now) }
+    ensures { let asked = search_question_seen question.now in
+        IfOk result (IsSearchAnswer json_answer sessions.now asked exploration.now) }
 {
     match question {
         SearchQuestion::Patterns(questions) => patterns_json(

@@ -89,7 +89,7 @@ fn answer_with_run<A: Allocator + Copy>(
 }
 
 /// The answer of a run that shows the trace by process, found by the trace's own order; None where there is none. It
-/// tells how many states were met before the run was found.
+/// has how many states were met before the run was found.
 pub(crate) fn answer_in_order<A: Allocator + Copy>(
     alloc: A,
     program: &Program<A>,

@@ -54,8 +54,9 @@ fn answer_before<A: Allocator + Copy>(
     form: AnswerForm,
 ) -> Result<Option<SearchAnswer<A>>, AllocError>
     ensures { let trace = trace_by_process (search_question_seen question.now) (is_by_process plan.now.order) in
-        let ss = map session_name_seen names.now in IfOk result (λ o. IsTextBefore (form_seen form) ss (program_of program.now)
-        plan.now.before.now plan.now.places.now plan.now.max_states trace (option_map search_text_seen o)) }
+        let ss = map session_name_seen names.now in let p = program_of program.now in
+        IfOk result (λ o. IsTextBefore (form_seen form) ss p plan.now.before.now plan.now.places.now
+        plan.now.max_states trace (option_map search_text_seen o)) }
 {
     match question {
         SearchQuestion::Patterns(_) => Ok(None),
@@ -77,8 +78,9 @@ fn answer_of<A: Allocator + Copy>(
     form: AnswerForm,
 ) -> Result<SearchAnswer<A>, AllocError>
     ensures { let q = search_question_seen question.now in let b = is_by_process plan.now.order in
-        let ss = map session_name_seen names.now in IfOk result (λ a. IsAnswerText (form_seen form) ss q b (program_of program.now)
-        plan.now.before.now plan.now.places.now plan.now.max_states (search_text_seen a)) }
+        let ss = map session_name_seen names.now in let p = program_of program.now in
+        IfOk result (λ a. IsAnswerText (form_seen form) ss q b p plan.now.before.now plan.now.places.now
+        plan.now.max_states (search_text_seen a)) }
 {
     if let Some(answer) = answer_before(alloc, program, names, question, plan, form)? {
         return Ok(answer);

@@ -1,8 +1,8 @@
 //! The formats of what a command writes, beside the plain one: the summary of an output, and JSON lines.
 //!
 //! Depends on def_formats and on the kit's `json`, which writes each JSON value. Promises that `in_format` gives the
-//! text that is defined for a plain text and a format, `first_line` the first line of a text, and that each function which
-//! writes a row or a member writes the defined one.
+//! text that is defined for a plain text and a format, `first_line` the first line of a text, and that each function
+//! which writes a row or a member writes the defined one.
 #![tactic(auto)]
 
 mod atom;
