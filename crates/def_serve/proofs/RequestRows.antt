@@ -64,7 +64,7 @@ version_answer = refl
 
 -- U+FFFD in the place of a byte
 replaced_byte : bytes_value (97 ∷ 255 ∷ 98 ∷ []) ≡ string (97 ∷ 239 ∷ 191 ∷ 189 ∷ 98 ∷ [])
-unfolding utf8_lossy utf8_valid_len utf8_error_len is_utf8 chars
+unfolding json_on_literals utf8_lossy utf8_valid_len utf8_error_len is_utf8 chars
 replaced_byte = refl
 
 nested_error : serve_error nested_serve ≡ codes "{\"error\":\"serve can't be asked for serve\"}\n"
