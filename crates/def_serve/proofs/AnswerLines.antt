@@ -1,5 +1,5 @@
 -- An answer and an error are one line each.
-use Rattle.std.proofs.Common.{decimal, false}
+use Rattle.std.proofs.Common.{false}
 use Rattle.json.specs.Tree.{json_tokens}
 use Rattle.def_notice.proofs.LineFeeds.{decimal_has_none}
 use Rattle.def_serve.specs.Answers.{serve_answer_row, serve_error_row}

@@ -1,5 +1,5 @@
 -- An answer and an error are read as their objects.
-use Rattle.std.proofs.Common.{◌≡◌, ℕ, List, ap, arith, ◌<◌, ◌^◌}
+use Rattle.std.proofs.Common.{ap, arith}
 use Rattle.std.proofs.lemmas.Str.{utf8_lossy-IsUtf8}
 use Rattle.json.specs.Json.{string}
 use Rattle.json.proofs.Printed.Trees.{document-print}

@@ -1,6 +1,6 @@
 -- A request is read as it was meant, and no line is refused for lack of memory.
-use Rattle.std.proofs.Common.{◌≡◌, ◌≢◌, ◌≤◌, ◌<◌, ℕ, nat_lt, Bool, true, false, cond, if◌then◌else◌, List, [], ◌∷◌, length, map, Option, Some, None, option_and_then, option_map, unwrap_or, Result, Ok, Err, refl, ap, sym, ◌∙◌, arith, codes}
-use Rattle.std.specs.Str.{is_utf8, bytes_eq}
+use Rattle.std.proofs.Common.{◌≡◌, ◌≢◌, ◌≤◌, ℕ, nat_lt, Bool, true, false, cond, if◌then◌else◌, List, [], ◌∷◌, length, map, Option, Some, None, option_map, Result, Ok, Err, refl, ap, ◌∙◌, arith, codes}
+use Rattle.std.specs.Str.{bytes_eq}
 use Rattle.std.proofs.lemmas.Str.{is_utf8-from_IsUtf8}
 use Rattle.json.specs.Json.{Json, null, boolean, number, string, array, object, Members, no_members, member, document}
 use Rattle.json.specs.Find.{as_str}
@@ -8,8 +8,8 @@ use Rattle.json.specs.Print.{print}
 use Rattle.json.specs.Tree.{json_tokens, items_depth, ItemsHaveNumbers}
 use Rattle.json.proofs.Printed.Trees.{document-print}
 use Rattle.def_formats.specs.JsonRows.{items_from}
-use Rattle.def_serve.specs.Requests.{ServeRequest, RequestFault, long_line, no_json, no_object, other_member, repeated_member, no_command, no_input, nested_serve, lacks_memory, longest_request, line_value, words_in, command_words, RequestParts, no_parts, only_value, with_command_member, with_input_member, with_member, then_parts, with_members, names_serve, request_of_parts, request_of_all, request_of_json, request_of_value, request_read}
-use Rattle.def_serve.specs.Laws.{request_row, IsSent, RequestIsRead, LineHasMemory}
+use Rattle.def_serve.specs.Requests.{ServeRequest, RequestFault, long_line, no_command, no_input, nested_serve, lacks_memory, longest_request, line_value, words_in, command_words, RequestParts, no_parts, only_value, with_command_member, with_input_member, with_member, then_parts, with_members, names_serve, request_of_parts, request_of_all, request_of_json, request_of_value}
+use Rattle.def_serve.specs.Laws.{request_row, RequestIsRead, LineHasMemory}
 
 -- ---- what is written is read
 

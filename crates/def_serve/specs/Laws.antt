@@ -1,8 +1,7 @@
 -- What is promised of requests and answers (own).
 -- Depends on both, on line feeds, and on the JSON of RFC 8259, by the kit's `json`.
-use Rattle.std.specs.Prelude.{◌≡◌, ◌≢◌, ◌<◌, ◌≤◌, ◌^◌, ℕ, false, List, [], ◌∷◌, length, map, Ok, Err, All, codes}
+use Rattle.std.specs.Prelude.{◌≡◌, ◌≢◌, ◌<◌, ◌≤◌, ◌^◌, ℕ, false, List, [], ◌∷◌, length, map, Ok, Err, codes}
 use Rattle.std.specs.Str.{IsUtf8}
-use Rattle.std.specs.Str.Lossy.{utf8_lossy}
 use Rattle.json.specs.Json.{Json, string, array}
 use Rattle.json.specs.Print.{print}
 use Rattle.json.specs.Tree.{json_tokens}

@@ -1,6 +1,6 @@
 -- Which line is a request to `serve`, and why any other is none (own).
 -- Depends on the JSON of RFC 8259, by the kit's `json`, and on UTF-8, by std.
-use Rattle.std.specs.Prelude.{ℕ, nat_lt, Bool, true, false, if◌then◌else◌, List, [], ◌∷◌, length, Option, Some, None, unwrap_or, option_map, option_and_then, Result, Ok, Err, codes}
+use Rattle.std.specs.Prelude.{ℕ, nat_lt, Bool, false, if◌then◌else◌, List, [], ◌∷◌, length, Option, Some, None, unwrap_or, option_map, option_and_then, Result, Ok, Err, codes}
 use Rattle.std.specs.Str.{is_utf8, bytes_eq}
 use Rattle.json.specs.Json.{Json, null, boolean, number, string, array, object, Items, no_items, item, Members, no_members, member, document}
 use Rattle.json.specs.Find.{as_str, as_array}

@@ -208,7 +208,7 @@ fn program<R: Input + Files + Print + Eprint + AllocGlobal + Threads + Wait + Sy
     ensures { IsExplorationStatus (exit_status result) }
 {
     match matches_of(rt, words) {
-        Ok(matches) if matches.subcommand_name() == Some("serve") => serve(rt),
+        Ok(matches) if matches!(matches.subcommand_name(), Some("serve")) => serve(rt),
         Ok(matches) => run_command(rt, &matches),
         Err(status) => status,
     }
