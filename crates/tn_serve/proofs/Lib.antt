@@ -1,1 +1,2 @@
 pub mod ReadMembers
+pub mod Outcomes
