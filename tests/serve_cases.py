@@ -197,13 +197,13 @@ def answers():
 def faults():
     """Lines that are no request: each has one error, in order, between requests that are answered."""
     good = request(ONE_SPEC)
-    lines = [line for fault, _ in FAULTS for line in (fault, good)]
-    ran, found = served(lines)
+    asked = [line for fault, _ in FAULTS for line in (fault, good)]
+    ran, found = served(asked)
     wanted = [answer for _, reason in FAULTS for answer in ({"error": reason}, started(ONE_SPEC))]
-    for line, seen, answer in zip(lines, found, wanted):
+    for line, seen, answer in zip(asked, found, wanted):
         check(f"the answer to the line {line[:60]}", seen == answer, seen)
         check(f"the schema of the answer to the line {line[:60]}", is_valid(seen), seen)
-    check("an answer for each line", (len(found), ran.returncode, ran.stderr) == (len(lines), 0, b""), ran)
+    check("an answer for each line", (len(found), ran.returncode, ran.stderr) == (len(asked), 0, b""), ran)
 
 
 def lines():
