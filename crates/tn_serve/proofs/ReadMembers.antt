@@ -2,11 +2,14 @@
 use Rattle.std.proofs.Common.{◌≡◌, ◌∙◌, ℕ, ◌+◌, ◌<◌, ◌≤◌, List, [], ◌∷◌, ◌++◌, length, get_or, drop, map, Option, Some, None, option_map, option_and_then, Result, Ok, Err, refl, sym, ap, append_assoc, append-nil}
 use Rattle.std.proofs.lemmas.List.{drop_more, drop_all, map-append}
 use Rattle.std.specs.Borrow.{Bor}
+use Rattle.std.specs.declared.vec.Vec.{Vec}
 use Rattle.json.specs.declared.value.Value.{Value}
+use Rattle.json.specs.declared.value.Value.TheVariants.{Object}
+use Rattle.json.proofs.Trees.{view-Object}
 use Rattle.json.specs.Json.{item, member}
 use Rattle.json.specs.Find.{as_str}
 use Rattle.json.specs.Value.{value_view, items_view, members_view}
-use Rattle.def_serve.specs.Requests.{RequestParts, RequestFault, words_in, with_member, with_members, then_parts}
+use Rattle.def_serve.specs.Requests.{RequestParts, RequestFault, words_in, with_member, with_members, then_parts, no_parts, request_of_all, request_of_json}
 
 -- ---- words
 
@@ -70,3 +73,10 @@ module _ {A : Type 0} (ms : List (Bor (List ℕ) × Value A)) (i : ℕ) (parts :
 
   pub members_end : length ms ≤ i → MembersSo → whole ≡ Ok parts
   members_end past so_far = so_far ∙ ap (λ ys. with_members (members_view ys) parts) (drop_all i ms past)
+
+-- an object is read by its members
+pub object_read : {A : Type 0} (value : Value A) (v : Vec (Bor (List ℕ) × Value A) A) (ms : List (Bor (List ℕ) × Value A)) (r : Result RequestParts RequestFault)
+    → value ≡ Object v → ms ≡ v.items → with_members (members_view ms) no_parts ≡ r → request_of_json (value_view value) ≡ request_of_all r
+object_read value v ms r is same read =
+    ap (λ x. request_of_json (value_view x)) is ∙ ap request_of_json (view-Object v)
+    ∙ ap (λ l. request_of_all (with_members (members_view l) no_parts)) (sym same) ∙ ap request_of_all read
