@@ -74,9 +74,10 @@ _tracenode() {
                 ;;
             spec) words='--list --for --me --caller --json --file --fun -h --help' ;;
             fun) words='--for --pretty -h --help' ;;
-            explore) words='--after --control --order --session --shows --always --never --sometimes'
+            explore) words='--after --control --order --session --json --shows --always --never --sometimes'
                 words+=' --max-states --max-output -h --help' ;;
-            compare) words='--trace --prefix --after --control --order --session --max-states --max-output -h --help' ;;
+            compare) words='--trace --prefix --after --control --order --session --json'
+                words+=' --max-states --max-output -h --help' ;;
             serve) words='-h --help' ;;
             help) words='run replay round workers explain draw spec fun explore compare serve' ;;
         esac

@@ -109,12 +109,12 @@ def glossary():
 
 
 def differences():
-    """Each difference that bench/node knows: its first words are those of a line of the page of differences."""
+    """Each difference that bench/node or bench/free knows: its first words are those of a line of the page of differences."""
     text = read(DOCS / "DIFFERENCES.md")
     lines = {line.rstrip(".") for line in re.findall(r"^\* \*\*(.+?)\*\*", text, re.M)}
-    source = read(TOP / "bench" / "witness" / "differences.py")
+    source = "".join(read(TOP / "bench" / "witness" / name) for name in ("differences.py", "free_differences.py"))
     for first in re.findall(r'^class \w+\(\w+\):\n    """([^.:"]+)', source, re.M):
-        if not first.startswith("A difference by which"):
+        if not first.startswith(("A difference by which", "A difference of")):
             yield f"the difference {first}", first in lines, first
 
 

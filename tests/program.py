@@ -81,8 +81,14 @@ SUBJECTS = {
         exploration_cases.patterns,
         exploration_cases.bad_patterns,
         exploration_cases.bad_explorations,
+        exploration_cases.exploration_json,
     ),
-    "comparison": (comparison_cases.comparisons, comparison_cases.possible_runs, comparison_cases.bad_traces),
+    "comparison": (
+        comparison_cases.comparisons,
+        comparison_cases.possible_runs,
+        comparison_cases.bad_traces,
+        comparison_cases.comparison_json,
+    ),
     "format": (format_cases.formats, format_cases.schema),
     "serve": (
         serve_cases.answers,

@@ -15,7 +15,7 @@ from witness.expressions import (
     integers_in,
     is_specification,
 )
-from witness.functions import Function, LAST, module_text
+from witness.functions import Function, LAST, Source, module_text
 from witness.terms import ANYTHING, Atom, FALSE, Pid, Reader, TRUE, line_is, pid_of, quoted, text, to_node
 
 HAS_NAME = {"m": ["go", "f", "g"], "n": ["h", "k"]}
@@ -26,9 +26,12 @@ PID = re.compile(r"<0\.[0-9]+\.0>")
 class ScriptChooser:
     """Random functions, processes and commands of a script."""
 
+    # How many processes there are at first.
+    STARTED = (2, 3)
+
     def __init__(self, chance):
         self.chance = chance
-        self.started = chance.randint(2, 3)
+        self.started = chance.randint(*self.STARTED)
         self.functions = self.signatures()
         self.used = collections.Counter()
         self.named = set()
@@ -64,11 +67,15 @@ class ScriptChooser:
             if not self.add_step(function, later, pids, values):
                 return
 
-    def add_step(self, function, later, pids, values):
-        """One more step; false after a last one."""
+    def kinds(self, later):
+        """The kinds of steps, each with how often it is."""
         kinds = {"send": 30, "receive": 14, "call": 25 if later else 0, "spawn": 12 if later else 0}
         kinds |= {"link": 8, "unlink": 3, "return": 4, "exit": 9}
-        kinds |= {"catch": 30 if later else 0, "error": 12, "throw": 12}
+        return kinds | {"catch": 30 if later else 0, "error": 12, "throw": 12}
+
+    def add_step(self, function, later, pids, values):
+        """One more step; false after a last one."""
+        kinds = self.kinds(later)
         kind = self.chance.choices(list(kinds), list(kinds.values()))[0]
         if kind == "send":
             function.steps.append((Atom("send"), self.pid(pids), self.value(pids, values)))
@@ -85,8 +92,7 @@ class ScriptChooser:
         elif kind == "spawn":
             function.steps.append(self.spawn(self.one(later), pids, values))
         elif kind in ("link", "unlink"):
-            others = pids if self.often(0.1) else [pid for pid in pids if pid != "Self"]
-            function.steps.append((Atom(kind), self.pid(others)))
+            function.steps.append((Atom(kind), self.partner(pids)))
         else:
             reason = self.one([Atom("boom"), Atom("normal"), 7]) if kind == "exit" else self.value(pids, values)
             function.steps.append((Atom(kind), reason))
@@ -99,6 +105,10 @@ class ScriptChooser:
         if self.often(0.6):
             return self.one(pids)
         return Pid(163) if self.often(0.06) else Pid(100 + self.chance.randrange(self.started))
+
+    def partner(self, pids):
+        """The pid of a link: seldom the process itself."""
+        return self.pid(pids if self.often(0.1) else [pid for pid in pids if pid != "Self"])
 
     def value(self, pids, values):
         """A template."""
@@ -487,14 +497,16 @@ class ScriptCase:
 
     def question(self, differences):
         """What the node is asked."""
-        names = sorted({function.module for function in self.functions})
-        modules = [
-            (name, quoted(module_text(name, [each for each in self.functions if each.module == name], differences)))
-            for name in names
-        ]
+        modules = self.modules(differences)
         commands = iter([self.asked(command, differences) for command in self.session])
         moves = [(Atom("pick"), pick) if pick else next(commands) for pick in self.picks()]
         return (Atom("script"), self.names(), modules, self.processes, moves)
+
+    def modules(self, differences, source=Source):
+        """The names and texts of the modules."""
+        names = sorted({function.module for function in self.functions})
+        own = {name: [each for each in self.functions if each.module == name] for name in names}
+        return [(name, quoted(module_text(name, own[name], differences, source))) for name in names]
 
     def asked(self, command, differences):
         """A command for the node."""

@@ -10,8 +10,11 @@ import threading
 from witness.accounts import Account
 from witness.terms import Atom, Reader, node_text
 
-GATE = pathlib.Path(__file__).resolve().parent / "node_gate.erl"
+HERE = pathlib.Path(__file__).resolve().parent
 SECONDS = 120
+
+# The modules of Erlang that run in the node; the last one answers where no other is named.
+GATES = ["free_gate", "node_gate"]
 
 # What is answered in place of a node that ended.
 ENDED = Atom("ended")
@@ -77,14 +80,19 @@ def listed(lines):
 
 
 class Node:
-    """A node in a root, which answers questions, each a term."""
+    """A node in a root with so many schedulers, which answers questions, each a term, within so many seconds."""
 
-    def __init__(self, root):
+    def __init__(self, root, gate=GATES[-1], schedulers=1, seconds=SECONDS):
         self.root = pathlib.Path(root).absolute()
+        self.gate = gate
+        self.schedulers = schedulers
+        self.seconds = seconds
         self.folder = pathlib.Path(tempfile.mkdtemp(prefix="node_gate.", dir=self.root / "tmp"))
         self.within = f"/tmp/{self.folder.name}"
-        shutil.copy(GATE, self.folder)
-        subprocess.run([*self.entered(), "erlc", "-o", self.within, f"{self.within}/{GATE.name}"], check=True)
+        for name in GATES:
+            shutil.copy(HERE / f"{name}.erl", self.folder)
+        sources = [f"{self.within}/{name}.erl" for name in GATES]
+        subprocess.run([*self.entered(), "erlc", "-o", self.within, *sources], check=True)
         self.process = self.started()
 
     def entered(self):
@@ -93,8 +101,10 @@ class Node:
 
     def started(self):
         """A new node."""
+        # A scheduler that has nothing to do sleeps at once.
+        schedulers = ["+S", f"{self.schedulers}:{self.schedulers}", "+sbwt", "none"]
         return subprocess.Popen(
-            [*self.entered(), "erl", "-noshell", *QUIET, "+S", "1:1", "-pa", self.within, "-s", "node_gate", "serve"],
+            [*self.entered(), "erl", "-noshell", *QUIET, *schedulers, "-pa", self.within, "-s", self.gate, "serve"],
             stdin=subprocess.PIPE,
             stdout=subprocess.PIPE,
             stderr=subprocess.DEVNULL,
@@ -104,7 +114,7 @@ class Node:
 
     def ask(self, question):
         """The answer to a question. Where the node ends, the next question is asked of a new one."""
-        watch = threading.Timer(SECONDS, self.process.kill)
+        watch = threading.Timer(self.seconds, self.process.kill)
         watch.start()
         try:
             self.process.stdin.write(node_text(question) + ".\n")
