@@ -2,8 +2,9 @@
 //! patterns, or whether a trace is possible; and how many states were met.
 //!
 //! Depends on tn_explore (what a search answers), tn_messages (what it keeps), tn_message_pattern, tn_comparison,
-//! def_explore and def_compare. Promises that `search_answer` has the defined text in its form, and says whether what is
-//! demanded of a pattern is refuted, whether the trace is impossible, and whether more states could change the answer.
+//! def_explore and def_compare. Promises that `search_answer` has the defined text in its form, and says whether what
+//! is demanded of a pattern is refuted, whether the trace is impossible, and whether more states could change the
+//! answer.
 #![tactic(auto)]
 
 mod answer_rows;
