@@ -2,9 +2,9 @@
 //!
 //! Depends on def_serve, and on the kit's `json`, which reads and writes each JSON value. Promises that a line is read
 //! as the request or the fault that is defined for it, that the lines of answers and of errors are the defined ones,
-//! that the next line of a reader is its first line, cut after 8 MiB and a byte, and that what a command wrote is had
-//! whole or not at all. That a command writes to its runtime what the program writes to its streams is tested: the
-//! kit's handles have no contract of what is printed.
+//! and that what was appended to a capture is had whole or not at all. That the next line of a reader is its first
+//! line, cut after 8 MiB and a byte, is tested. So is that a command writes to its runtime what the program writes to
+//! its streams: the kit's handles have no contract of what is printed.
 #![tactic(auto)]
 
 mod answer;
