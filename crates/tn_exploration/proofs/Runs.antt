@@ -1,5 +1,5 @@
 -- Whether an answer has a run that shows its trace.
-use Rattle.std.proofs.Common.{◌≡◌, ◌∙◌, ℕ, Bool, true, false, List, Option, Some, None, not, ◌&&◌, ◌||◌, sym, ap}
+use Rattle.std.proofs.Common.{◌≡◌, ℕ, Bool, true, false, List, Option, Some, None, not, ◌&&◌, ◌||◌, refl}
 use Rattle.std.specs.Prelude.{is_some}
 use Rattle.def_compare.specs.Entries.{Match}
 use Rattle.tn_exploration.specs.Searches.{SearchText, text_by_match}

@@ -1,7 +1,7 @@
 use Rattle.std.proofs.Common.{◌≡◌, ap, map, refl, subst}
 use Rattle.std.proofs.lemmas.Result.{IfOk-weaker}
 use Rattle.std.specs.Option.{option_map}
-use Rattle.std.specs.Prelude.{None, Some, true}
+use Rattle.std.specs.Prelude.{None, Some, false, true}
 use Rattle.def_compare.specs.Traces.{begins_trace}
 use Rattle.tn_program.specs.Views.{program_of}
 use Rattle.tn_answers.specs.AnswerViews.{session_name_seen}
@@ -30,7 +30,7 @@ returns g c =
     let ss = map session_name_seen c.args.names.now in
     let form = form_seen c.args.form in
     let plan = c.args.plan.now in
-    let run = c.in-Some.run in
+    let run = c.in-Some.run' in
     let after = c.in_ok-after.after in
     let es = answer_entries (kept_seen {A = g.row.A.Denot}) after.answers.entries in
     let found = subst (λ o. IsRunInOrder a p plan.before.now plan.places.now plan.max_states (option_map run_in_order_seen o)) c.in-Some.is c.in_ok-run.ensures in
