@@ -18,7 +18,7 @@ _tracenode() {
         *,=) before=${COMP_WORDS[COMP_CWORD - 1]} word= ;;
     esac
     if [ "$COMP_CWORD" -eq 1 ]; then
-        words='run replay round workers explain draw spec fun explore compare help -h --help -V --version'
+        words='run replay round workers explain draw spec fun explore compare serve help -h --help -V --version'
         case ${COMP_WORDS[0]} in
             */*) words+=' --prove --install --release' ;;
         esac
@@ -74,10 +74,12 @@ _tracenode() {
                 ;;
             spec) words='--list --for --me --caller --json --file --fun -h --help' ;;
             fun) words='--for --pretty -h --help' ;;
-            explore) words='--after --control --order --session --shows --always --never --sometimes'
+            explore) words='--after --control --order --session --json --shows --always --never --sometimes'
                 words+=' --max-states --max-output -h --help' ;;
-            compare) words='--trace --prefix --after --control --order --session --max-states --max-output -h --help' ;;
-            help) words='run replay round workers explain draw spec fun explore compare' ;;
+            compare) words='--trace --prefix --after --control --order --session --json'
+                words+=' --max-states --max-output -h --help' ;;
+            serve) words='-h --help' ;;
+            help) words='run replay round workers explain draw spec fun explore compare serve' ;;
         esac
     fi
     COMPREPLY=($(compgen -W "$words" -- "$word"))

@@ -1,13 +1,14 @@
 """Cases of comparisons: traces as a node could print them, with pids of its own and in another order, and traces that no
 run shows. What is expected is found by an independent comparison with the listings that an exploration writes.
 """
+import json
 import random
 import re
 import shlex
 import tempfile
 from pathlib import Path
 
-from exploration_cases import headers, script_of, searches
+from exploration_cases import explored_row, has_rows, headers, script_of, searches
 from harness import SEND_HI, check, run
 
 PID = re.compile(r"<0\.(\d+)\.0>")
@@ -138,11 +139,14 @@ def longest(trace, entries, total):
 
 
 def is_answer(script, told, trace, searched, total, goes_on):
-    """Whether these lines are an answer, with its status, beside the entries of a search through all states or some."""
-    entries, whole = searched
+    """Whether these lines are an answer, with its status, beside the entries of a search through all states or some. By
+    process a run in the order of the trace comes first: an entry in total order."""
+    (entries, whole), (ordered, all_ordered) = searched
     found = first_match(trace, entries, total, goes_on)
     if POSSIBLE.match(told):
-        first = goes_on or not found or POSSIBLE.match(told)[1] == found[0]
+        in_order = first_match(trace, ordered, True, goes_on)
+        wanted = in_order or all_ordered and found
+        first = goes_on or not wanted or POSSIBLE.match(told)[1] == wanted[0]
         return first and (found or not whole) and told == possible_answer(script, told, trace, total, goes_on), 0
     if told.endswith(": no run to rest was met\n"):
         return not whole and told.startswith("unknown"), 4
@@ -251,6 +255,11 @@ def mixed_lines(lines):
     return "".join(f"{dbg_line(line) if n % 3 and has_dbg_line(line) else line}\n" for n, line in enumerate(lines))
 
 
+def without(option, options):
+    """The words of a command line without an option and its value."""
+    return [word for n, word in enumerate(options) if word != option and (n == 0 or options[n - 1] != option)]
+
+
 CLOSING = re.compile(r"complete: \d+ states?, \d+ listings?\n|not complete: \d+ states? w(?:as|ere) met\n")
 
 # How a text may be laid out, by its messages.
@@ -268,8 +277,11 @@ def comparisons():
     for name, words in SYSTEMS:
         script, options = script_of(name), shlex.split(words)
         [(entries, end)] = searches(run(["explore", *options], script).stdout.decode())
+        words_in_order = ["--order", "total", *without("--order", options)]
+        [(ordered, ordered_end)] = searches(run(["explore", *words_in_order], script).stdout.decode())
         [header] = headers(script)
         total, whole = "total" in words, end[1] is not None
+        searched = (entries, whole), (ordered, ordered_end[1] is not None)
         for journal, text in chance.sample(entries, min(8, len(entries))):
             trace = printed(text.splitlines()[1:], total, chance)
             for n, lines in enumerate([trace, trace[: len(trace) // 2], *changes(trace, chance)]):
@@ -277,8 +289,9 @@ def comparisons():
                     lay = LAYOUTS[n % len(LAYOUTS)]
                     ran = compare(script, lay(lines), [*options, *(["--prefix"] if goes_on else [])])
                     told, _, closing = ran.stdout.decode().removeprefix(header).partition("== explored\n")
-                    good, status = is_answer(script, told, lines, (entries, whole), total, goes_on)
-                    good = good and CLOSING.fullmatch(closing) and (not whole or closing.startswith("complete"))
+                    good, status = is_answer(script, told, lines, searched, total, goes_on)
+                    in_order = not total and POSSIBLE.match(told)
+                    good = good and CLOSING.fullmatch(closing) and (not whole or in_order or closing.startswith("complete"))
                     good = good and ran.returncode == status and not ran.stderr
                     check(f"compare {words} with {name}, {journal}, change {n}, {goes_on}", good, (lines, ran))
 
@@ -332,3 +345,40 @@ def bad_traces():
     check("compare without its session", ran.returncode == 2 and ran.stderr == b"error: the script creates no session nobody\n", ran)
     ran = compare(SEND_HI, "", ["--max-output", "10"])
     check("compare past its bound", ran.returncode == 3 and not ran.stdout and ran.stderr.startswith(b"fault"), ran)
+
+
+def comparison_row(lines):
+    """The value of JSON that the lines of an answer are, as the manual says."""
+    first, rest = lines[0], lines[1:]
+    pids = [dict(zip(("trace", "run"), line.split(" is "))) for line in rest if re.fullmatch(r"<[^>]+> is <[^>]+>", line)]
+    journal = [int(pick) for pick in first.partition("journal")[2].split()]
+    if first.startswith("possible"):
+        return {"answer": "possible", "journal": journal, "pids": pids}
+    answer = {"answer": first.partition(":")[0]}
+    if "no run to rest" in first:
+        return answer
+    prefix, count = (int(number) for number in re.findall(r"is (\d+) of (\d+) message", first)[0])
+    told = dict(line.split(": ", 1) for line in rest if ": " in line)
+    there = told.get("there")
+    more = int(told["not in the trace"].split()[0]) if "not in the trace" in told else None
+    differs = {"not_there": told.get("not there"), "there": None if there == "no message" else there, "more": more}
+    return {**answer, "prefix": prefix, "of": count, "journal": journal, "pids": pids, **differs}
+
+
+def comparison_json():
+    """The JSON of comparisons is what the plain lines say."""
+    chance = random.Random(63)
+    for name, words in (("race", ""), ("race", "--order total"), ("pool", "--control first"), ("race", "--max-states 1")):
+        script, options = script_of(name), shlex.split(words)
+        [(entries, _)] = searches(run(["explore", *without("--max-states", options)], script).stdout.decode())
+        head = dict(zip(("session", "tracer"), headers(script)[0].split()[2::2]))
+        for _, text in chance.sample(entries, min(3, len(entries))):
+            trace = printed(text.splitlines()[1:], "total" in words, chance)
+            for lines in [trace, *changes(trace, chance)]:
+                plain = compare(script, "\n".join(lines), options)
+                ran = compare(script, "\n".join(lines), ["--json", *options])
+                told, _, closing = plain.stdout.decode().partition("== explored\n")
+                found = [json.loads(line) for line in ran.stdout.decode().splitlines()]
+                listings = found[-1]["listings"] if found else 0
+                wanted = [head, comparison_row(told.splitlines()[1:]), explored_row(closing, listings)]
+                has_rows(f"compare --json {words} with {name}, {lines}", plain, ran, wanted)

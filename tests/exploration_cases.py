@@ -1,11 +1,13 @@
 """Cases of explorations: how many states and listings there are, journals that give their listings, runs by hand, words for
 patterns, refusals.
 """
+import json
 import re
 import shlex
 
 from harness import EXAMPLES, NO_FORMS, ROWS, SEND_HI, check, run, wants
 from numbers_of_explorations import COUNTS
+from schemas import is_valid
 
 # The line of an entry, and the last line of a search.
 ENTRY = re.compile(r"== listing (\d+) of (\d+): journal((?: \d+)*)\n")
@@ -229,3 +231,73 @@ def bad_explorations():
     check("an exploration of no forms", good, ran)
     ran = run(["explore", "--max-output", "10"], SEND_HI)
     check("an exploration past its bound", ran.returncode == 3 and not ran.stdout and ran.stderr.startswith(b"fault"), ran)
+
+
+# The words for a pattern, each at the beginning of its line.
+WORD_LINE = re.compile(r"(always|never|sometimes|unknown): (.*)")
+
+
+def picks_of(text):
+    """The picks of a journal's text."""
+    return [int(pick) for pick in text.split()]
+
+
+def explored_row(line, listings):
+    """The value of the last line of a search that found so many listings."""
+    states = int(re.search(r"\d+", line)[0])
+    return {"complete": not line.startswith("not"), "states": states, "listings": listings}
+
+
+def listing_rows(output):
+    """The values of JSON that listings of sessions with bare names are, as the manual says."""
+    for entries, end in searches(output):
+        for number, (journal, text) in enumerate(entries, 1):
+            yield {"listing": number, "of": len(entries), "journal": picks_of(journal)}
+            head, *lines = text.splitlines() or [""]
+            session = dict(zip(("session", "tracer"), head.split()[2::2]))
+            yield {**session, "messages": len(lines)}
+            for at, line in enumerate(lines, 1):
+                pid, kind = line.split(",")[1:3]
+                yield {**session, "message": at, "kind": kind, "pid": pid, "text": line}
+        yield explored_row(end[0].splitlines()[1], len(entries))
+
+
+def word_rows(output, demands, listings):
+    """Those of words for patterns, each with what is demanded of it, where there are so many listings."""
+    head, *lines = output.splitlines()
+    yield dict(zip(("session", "tracer"), head.split()[2::2]))
+    starts = [at for at, line in enumerate(lines) if WORD_LINE.fullmatch(line)]
+    for demand, at, end in zip(demands, starts, [*starts[1:], lines.index("== explored")], strict=True):
+        word, pattern = WORD_LINE.fullmatch(lines[at]).groups()
+        told = dict(line.split(" by", 1) for line in lines[at + 1 : end] if " by" in line)
+        journals = {f"{name}_by": picks_of(told[name]) if name in told else None for name in ("shown", "not")}
+        refuted = f"refuted: {demand}" in lines[at + 1 : end]
+        yield {"pattern": pattern, "word": word, "demand": demand, "refuted": refuted, **journals}
+    yield explored_row(lines[-1], listings)
+
+
+def has_rows(name, plain, ran, wanted):
+    """The lines of JSON are these values, with their keys in order, each is of the schema, and the status is the plain one."""
+    try:
+        found = [json.loads(line, object_pairs_hook=list) for line in ran.stdout.decode().splitlines()]
+    except ValueError:
+        found = []
+    good = found == [json.loads(json.dumps(row), object_pairs_hook=list) for row in wanted]
+    good = good and all(is_valid(json.loads(line)) for line in ran.stdout.decode().splitlines())
+    check(name, good and (ran.returncode, ran.stderr) == (plain.returncode, plain.stderr), (wanted, ran))
+
+
+def exploration_json():
+    """The JSON of listings and of words is what the plain lines say."""
+    for name, words in (("race", ""), ("race", "--order total"), ("pool", "--control first"), ("race", "--max-states 40")):
+        plain = run(["explore", *shlex.split(words)], script_of(name))
+        ran = run(["explore", "--json", *shlex.split(words)], script_of(name))
+        has_rows(f"explore --json {words} of {name}", plain, ran, list(listing_rows(plain.stdout.decode())))
+    shown, other = "{trace,'_',call,{m,handle,[2]}}", "{trace,'_',send,'_','_'}"
+    patterns = ["--shows", shown, "--always", shown, "--never", other, "--sometimes", other]
+    for words in ([], ["--max-states", "20"]):
+        plain = run(["explore", *patterns, *words], script_of("race"))
+        ran = run(["explore", "--json", *patterns, *words], script_of("race"))
+        listings = run(["explore", *words], script_of("race")).stdout.decode().count("== listing ")
+        wanted = word_rows(plain.stdout.decode(), ("any word", "always", "never", "sometimes"), listings)
+        has_rows(f"explore --json with patterns {words}", plain, ran, list(wanted))

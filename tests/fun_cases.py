@@ -124,6 +124,7 @@ REFUSED = (
     # The grammar.
     ("fun([X]) -> 1 < X ^< 5 end", "2 token"),
     ("fun(^([X])) -> X end", "2 token"),
+    ("fun([^|X]) -> X end", "2 token"),
     ("fun([^X + 1]) -> X end".replace("^X +", "X ^+"), "2 token"),
     ("fun([- ^- 1]) -> true end", "2 token"),
     ("fun(X = Y ^= Z) -> X end", "21 no ="),

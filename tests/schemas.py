@@ -9,12 +9,12 @@ SCHEMA = json.loads((TOP / "docs" / "tracenode.schema.json").read_text())
 # The words of a schema that say nothing of a value.
 WORDS = {"$schema", "title", "description", "$defs"}
 
-TYPES = {"object": dict, "array": list, "string": str, "integer": int}
+TYPES = {"object": dict, "array": list, "string": str, "integer": int, "boolean": bool, "null": type(None)}
 
 
 def has_type(value, name):
     """Whether the value has the type of this name; true and false are no integers."""
-    return isinstance(value, TYPES[name]) and not isinstance(value, bool)
+    return isinstance(value, TYPES[name]) and isinstance(value, bool) == (name == "boolean")
 
 
 def obeys(value, word, wanted, schema):

@@ -1,5 +1,5 @@
 -- Two answers to one question.
-use Rattle.std.proofs.Common.{◌≡◌, ◌∙◌, ◌⊎◌, inl, inr, ℕ, List, Option, Some, None, Result, Ok, Err, MatchResult, refl, sym, ap, subst, arith}
+use Rattle.std.proofs.Common.{◌≡◌, ◌∙◌, ◌⊎◌, inl, inr, ℕ, List, map, Option, Some, None, Result, Ok, Err, MatchResult, refl, sym, ap, subst, arith}
 use Rattle.std.specs.Borrow.{Bor}
 use Rattle.std.specs.declared.vec.Vec.{Vec}
 use Rattle.def_term.specs.Tree.{Tree, list, elements, of_elements}
@@ -12,22 +12,25 @@ use Rattle.def_spec.specs.Outcome as outcome
 use Rattle.def_spec.specs.Reading.{spec_of}
 use Rattle.def_explain.specs.Places.{stop_of}
 use Rattle.def_explain.specs.Texts.{spec_test_text}
+use Rattle.tn_term.specs.Views.{tree_of}
 use Rattle.tn_term.proofs.Views.{elements-of_elements}
 use Rattle.tn_text.specs.Answers.{IsTextRefusal}
 use Rattle.tn_text.specs.declared.fault.TextFault.{TextFault}
 use Rattle.tn_text.specs.declared.fault.TextFault.TheVariants as texts
 use Rattle.tn_spec.specs.Readings.{IsFaultIn, IsTooLarge, FaultAgreesWithSize}
 use Rattle.tn_spec.specs.Views.{dialect_of}
+use Rattle.tn_spec.specs.Wholes.{spec_seen}
 use Rattle.tn_spec.specs.declared.fault.SpecFault.{SpecFault}
 use Rattle.tn_spec.specs.declared.fault.SpecFault.TheVariants as specs
 use Rattle.tn_spec.specs.declared.func.Dialect.{Dialect}
-use Rattle.tn_verdict.specs.SpecTestInputs.{IsList, IsListFault, IsCallerFault, caller_is, HasCallerFault, IsSpecification, IsSpecificationFault, context_of, IsAnswerTo, HasList, HasCaller, IsNoAnswer}
+use Rattle.tn_verdict.specs.SpecTestInputs.{IsList, IsListFault, IsCallerFault, caller_is, HasCallerFault, mfas_seen, IsSpecification, IsSpecificationFault, AreTermsOf, context_of, IsAnswerTo, HasList, HasCaller, IsNoAnswer}
 use Rattle.tn_verdict.specs.declared.spec_test_input.SpecTestInput.{SpecTestInput}
+use Rattle.tn_verdict.specs.declared.spec_test_input.SpecTestTerms.{SpecTestTerms}
 use Rattle.tn_verdict.specs.declared.spec_test_input.SpecTestFault.{SpecTestFault}
 use Rattle.tn_verdict.specs.declared.spec_test_input.SpecTestFault.TheVariants.{List as OfList, NoList, Caller, NoCaller, Text, Spec, OutOfMemory}
 use Rattle.tn_verdict.specs.SpecReasonTexts.{text_where_reason, TellsReason}
 use Rattle.def_explain.specs.SpecReasons.{spec_reason}
-use Rattle.complete_code.specs.SpecTestAnswers.{IsRefusedText, IsRefusedSpec, IsSpecTestRefused, AreAnsweredAlike, AreToldAlike}
+use Rattle.complete_code.specs.SpecTestAnswers.{IsRefusedText, IsRefusedSpec, IsSpecTestRefused, AreAnsweredAlike, AreSameTerms, AreTermsAlike, AreToldAlike}
 
 -- ---- texts
 
@@ -62,7 +65,7 @@ one_refusal bytes (texts.TooLarge at) (texts.TooDeep there) p q r s = let k = on
 
 -- ---- what each text is
 
-one_list : (bytes : List ℕ) (ts us : List Tree) → IsList bytes ts → IsList bytes us → ts ≡ us
+pub one_list : (bytes : List ℕ) (ts us : List Tree) → IsList bytes ts → IsList bytes us → ts ≡ us
 one_list bytes ts us p q =
     let e : list (of_elements ts) ≡ list (of_elements us) = one bytes _ _ p q in
     let f : of_elements ts ≡ of_elements us = cc in
@@ -75,7 +78,7 @@ one_function f g e =
     let of_arity : f.arity ≡ g.arity = cc in
     λ i. record { module_name = of_module i; function_name = of_name i; arity = of_arity i }
 
-one_caller : (text : Option (Bor (List ℕ))) (f g : Option Mfa) → caller_is text f → caller_is text g → f ≡ g
+pub one_caller : (text : Option (Bor (List ℕ))) (f g : Option Mfa) → caller_is text f → caller_is text g → f ≡ g
 one_caller None None None p q = refl
 one_caller None None (Some g) p q = absurd q
 one_caller None (Some f) g p q = absurd p
@@ -83,7 +86,7 @@ one_caller (Some bytes) None g p q = absurd p
 one_caller (Some bytes) (Some f) None p q = absurd q
 one_caller (Some bytes) (Some f) (Some g) p q = ap Some (one_function f g (one bytes.now _ _ p.0 q.0))
 
-one_specification : (bytes : List ℕ) (d : Dialect) (s t : outcome.Spec) → IsSpecification bytes d s → IsSpecification bytes d t → s ≡ t
+pub one_specification : (bytes : List ℕ) (d : Dialect) (s t : outcome.Spec) → IsSpecification bytes d s → IsSpecification bytes d t → s ≡ t
 one_specification bytes d s t p q =
     let e : p.0 ≡ q.0 = one bytes p.0 q.0 p.1 q.1 in
     let read : spec_of (dialect_of d) q.0 ≡ Ok s = subst (λ u. spec_of (dialect_of d) u ≡ Ok s) e p.2 in
@@ -201,10 +204,10 @@ has_fault q (Text f) p = inr (inr p)
 has_fault q (Spec n f) p = inr (inr p)
 has_fault q OutOfMemory p = inl tt
 
-no_fault : {A : Type 0} (q : SpecTestInput) (t : List ℕ) (f : SpecTestFault A) → IsAnswerTo q t → HasFault q f → IsSpecTestRefused f
-no_fault q t f x (inl p) = no_list_fault q.list.now x.elements f x.of_list p
-no_fault q t f x (inr (inl p)) = no_caller_fault q.caller x.caller f x.of_caller p.1
-no_fault q t f x (inr (inr p)) = no_specification_fault q.spec.now q.dialect x.spec f x.of_spec p.2
+no_fault : {A : Type 0} (q : SpecTestInput) (ts : List Tree) (caller : Option Mfa) (s : outcome.Spec) (f : SpecTestFault A) → IsList q.list.now ts → caller_is q.caller caller → IsSpecification q.spec.now q.dialect s → HasFault q f → IsSpecTestRefused f
+no_fault q ts caller s f l m k (inl p) = no_list_fault q.list.now ts f l p
+no_fault q ts caller s f l m k (inr (inl p)) = no_caller_fault q.caller caller f m p.1
+no_fault q ts caller s f l m k (inr (inr p)) = no_specification_fault q.spec.now q.dialect s f k p.2
 
 one_fault : {A : Type 0} (q : SpecTestInput) (e f : SpecTestFault A) → HasFault q e → HasFault q f → ¬ IsSpecTestRefused e → ¬ IsSpecTestRefused f → e ≡ f
 one_fault q e f (inl x) (inl y) r s = one_list_fault q.list.now e f x y r s
@@ -220,7 +223,7 @@ one_fault q e f (inr (inr x)) (inr (inr y)) r s = one_specification_fault q.spec
 -- ---- two answers
 
 pub answer_or_fault : {A : Type 0} (q : SpecTestInput) (t : List ℕ) (f : SpecTestFault A) → IsAnswerTo q t → IsNoAnswer q f → IsSpecTestRefused f
-answer_or_fault q t f x y = no_fault q t f x (has_fault q f y)
+answer_or_fault q t f x y = no_fault q x.elements x.caller x.spec f x.of_list x.of_caller x.of_spec (has_fault q f y)
 
 pub one_reason : {A : Type 0} (q : SpecTestInput) (e f : SpecTestFault A) → IsNoAnswer q e → IsNoAnswer q f → ¬ IsSpecTestRefused e → ¬ IsSpecTestRefused f → e ≡ f
 one_reason q e f x y = one_fault q e f (has_fault q e x) (has_fault q f y)
@@ -231,6 +234,25 @@ answered_alike q (Ok v) (Ok w) x y = one_text q v.items w.items x y
 answered_alike q (Ok v) (Err f) x y = answer_or_fault q v.items f x y
 answered_alike q (Err e) (Ok w) x y = answer_or_fault q w.items e y x
 answered_alike q (Err e) (Err f) x y = one_reason q e f x y
+
+-- ---- two answers what the texts of a question spell
+
+one_question : {A : Type 0} (q : SpecTestInput) (v w : SpecTestTerms A) → AreTermsOf q v → AreTermsOf q w → AreSameTerms v w
+one_question q v w x y = record {
+  same_list = one_list q.list.now (map tree_of v.list.items) (map tree_of w.list.items) x.of_list y.of_list;
+  same_caller = one_caller q.caller (mfas_seen v.caller) (mfas_seen w.caller) x.of_caller y.of_caller;
+  same_spec = one_specification q.spec.now q.dialect (spec_seen v.spec) (spec_seen w.spec) x.of_spec y.of_spec;
+}
+
+terms_or_fault : {A : Type 0} (q : SpecTestInput) (v : SpecTestTerms A) (f : SpecTestFault A) → AreTermsOf q v → IsNoAnswer q f → IsSpecTestRefused f
+terms_or_fault q v f x y = no_fault q (map tree_of v.list.items) (mfas_seen v.caller) (spec_seen v.spec) f x.of_list x.of_caller x.of_spec (has_fault q f y)
+
+pub read_alike : {A : Type 0} (q : SpecTestInput) (a b : Result (SpecTestTerms A) (SpecTestFault A)) → MatchResult a (λ v. AreTermsOf q v) (λ f. IsNoAnswer q f) → MatchResult b (λ v. AreTermsOf q v) (λ f. IsNoAnswer q f)
+    → AreTermsAlike a b
+read_alike q (Ok v) (Ok w) x y = one_question q v w x y
+read_alike q (Ok v) (Err f) x y = terms_or_fault q v f x y
+read_alike q (Err e) (Ok w) x y = terms_or_fault q w e y x
+read_alike q (Err e) (Err f) x y = one_reason q e f x y
 
 -- ---- two answers why a text spells no specification
 

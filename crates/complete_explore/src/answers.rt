@@ -6,7 +6,7 @@ ghost use Rattle.tn_answers.specs.AnswerViews.{session_name_seen};
 ghost use Rattle.tn_answers.specs.SearchAnswers.{search_question_seen};
 
 use std::alloc::{AllocError, Allocator};
-use tn_answers::{SearchAnswer, SearchQuestion, SessionName};
+use tn_answers::{AnswerForm, SearchAnswer, SearchQuestion, SessionName};
 use tn_explore::Exploration;
 use tn_messages::KeptListings;
 
@@ -17,6 +17,7 @@ pub fn search_answer<A: Allocator + Copy, P: Allocator>(
     questions: (&SearchQuestion<'_, P>, &SearchQuestion<'_, P>),
     one: &Exploration<A, KeptListings<A>>,
     other: &Exploration<A, KeptListings<A>>,
+    form: AnswerForm,
 ) -> (
     Result<SearchAnswer<A>, AllocError>,
     Result<SearchAnswer<A>, AllocError>,
@@ -31,7 +32,7 @@ pub fn search_answer<A: Allocator + Copy, P: Allocator>(
     ensures unmet { IfOk result.0 (λ v. IfOk result.1 (λ w. v.is_unmet ≡ w.is_unmet)) }
     ensures settled { IfOk result.0 (λ v. IfOk result.1 (λ w. v.is_settled ≡ w.is_settled)) }
 {
-    let first = tn_answers::search_answer(alloc, sessions.0, questions.0, one);
-    let second = tn_answers::search_answer(alloc, sessions.1, questions.1, other);
+    let first = tn_answers::search_answer(alloc, sessions.0, questions.0, one, form);
+    let second = tn_answers::search_answer(alloc, sessions.1, questions.1, other, form);
     (first, second)
 }

@@ -14,7 +14,7 @@ use Rattle.complete_funs.specs.Answers.{fun_refusal_seen, AreSameRefusals, AreFu
 same_refusal : (r : OrRefusal (List FunClause)) (p q : FunRefusal) → r ≡ Err p → Some p ≡ Some q → r ≡ Err q
 same_refusal r p q h e = let same : p ≡ q = cc in h ∙ ap (λ x. Err x) same
 
-refused_as : (text : List ℕ) (f : ReadFault) (r : OrRefusal (List FunClause)) (q : FunRefusal) → IsRefusedFun text f r → fun_refusal_seen text f ≡ Some q → r ≡ Err q
+pub refused_as : (text : List ℕ) (f : ReadFault) (r : OrRefusal (List FunClause)) (q : FunRefusal) → IsRefusedFun text f r → fun_refusal_seen text f ≡ Some q → r ≡ Err q
 refused_as text faults.TooLong r q h e = same_refusal r _ q h e
 refused_as text (faults.Token at) r q h e = same_refusal r _ q h e
 refused_as text (faults.NoSuch v) r q h e = same_refusal r _ q h e
@@ -35,7 +35,7 @@ read_or_memory text ks f (Some q) is h r = never_both (fun_of_text text) ks q h 
 one_refusal : (r : OrRefusal (List FunClause)) (p q : FunRefusal) → r ≡ Err p → r ≡ Err q → p ≡ q
 one_refusal r p q h k = let same : ◌≡◌ {A = OrRefusal (List FunClause)} (Err p) (Err q) = sym h ∙ k in cc
 
-refused_alike : (text : List ℕ) (f g : ReadFault) (o p : Option FunRefusal) → fun_refusal_seen text f ≡ o → fun_refusal_seen text g ≡ p → IsRefusedFun text f (fun_of_text text) → IsRefusedFun text g (fun_of_text text) → AreSameRefusals o p
+pub refused_alike : (text : List ℕ) (f g : ReadFault) (o p : Option FunRefusal) → fun_refusal_seen text f ≡ o → fun_refusal_seen text g ≡ p → IsRefusedFun text f (fun_of_text text) → IsRefusedFun text g (fun_of_text text) → AreSameRefusals o p
 refused_alike text f g None p is are h k = tt
 refused_alike text f g (Some q) None is are h k = tt
 refused_alike text f g (Some q) (Some r) is are h k = one_refusal (fun_of_text text) q r (refused_as text f (fun_of_text text) q h is) (refused_as text g (fun_of_text text) r k are)

@@ -6,6 +6,7 @@
 
 mod fun_text;
 mod names;
+mod offset;
 mod reading;
 mod specification;
 mod tokens;

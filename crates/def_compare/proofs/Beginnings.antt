@@ -12,7 +12,7 @@ use Rattle.def_run.specs.View.{is_own}
 use Rattle.def_run.specs.Listing.{messages_from, session_after, messages}
 use Rattle.def_run.proofs.Appends.{own-append, shown-append, messages-append}
 use Rattle.def_explore.specs.Rests.{RunQuestion, all_messages, by_process, is_of_process, each_process, all_pids, kept_in}
-use Rattle.def_renaming.specs.Renaming.{IsRenamedBeginning}
+use Rattle.def_renaming.specs.Renaming.{IsRenamedPrefix}
 use Rattle.def_compare.specs.Traces.{BeginsTraceBy, has_message, lists_in, lists_with_messages, orders_in, begins_trace}
 use Rattle.def_compare.proofs.Pairs.{begins_by, begins_if}
 
@@ -68,14 +68,14 @@ module _ (p : Program) (picks more : List ℕ) where
 -- ---- fewer messages
 
 -- the first of some messages begin what all of them begin
-first_begin : (rs : List (ℕ × ℕ)) (xs rest us : List Tree) → IsRenamedBeginning rs (xs ++ rest) us → IsRenamedBeginning rs xs us
+first_begin : (rs : List (ℕ × ℕ)) (xs rest us : List Tree) → IsRenamedPrefix rs (xs ++ rest) us → IsRenamedPrefix rs xs us
 first_begin rs [] rest us h = tt
 first_begin rs (x ∷ xs) rest [] h = absurd h
 first_begin rs (x ∷ xs) rest (u ∷ us) h = (h.0, first_begin rs xs rest us h.1)
 
 module _ (rs : List (ℕ × ℕ)) (groups : List (List Tree)) where
   abbrev BeginsOne : List Tree → Type 0
-  BeginsOne xs = Any (IsRenamedBeginning rs xs) groups
+  BeginsOne xs = Any (IsRenamedPrefix rs xs) groups
 
   one_begins : (xs rest : List Tree) → BeginsOne (xs ++ rest) → BeginsOne xs
   one_begins xs rest h = (h.0, h.1, h.2, h.3, first_begin rs xs rest h.1 h.4)
@@ -105,6 +105,6 @@ begins_before ms q ss p picks more h =
     let by : (rs : List (ℕ × ℕ)) × BeginsTraceBy rs ms (kept_in q ss p (picks ++ more)) = begins_by ms (kept_in q ss p (picks ++ more)) h in
     begins_if ms (kept_in q ss p picks) by.0 (record {
       one = by.1.one;
-      first = subst (λ groups. All (λ xs. Any (IsRenamedBeginning by.0 xs) groups) (lists_with_messages (kept_in q ss p picks))) (same_orders ms q ss p (picks ++ more) picks)
+      first = subst (λ groups. All (λ xs. Any (IsRenamedPrefix by.0 xs) groups) (lists_with_messages (kept_in q ss p picks))) (same_orders ms q ss p (picks ++ more) picks)
           (fewer_begin by.0 (orders_in (kept_in q ss p (picks ++ more)) ms) (lists_in (kept_in q ss p picks)) (lists_in (kept_in q ss p (picks ++ more))) (kept_prefixes p picks more q ss) by.1.first);
     })

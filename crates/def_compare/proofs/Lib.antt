@@ -1,5 +1,6 @@
 mod Pairs
 mod Beginnings
 mod Matches
+mod InOrder
 mod Prefixes
 mod Rows

@@ -3,7 +3,7 @@ use Rattle.std.proofs.Common.{◌≡◌, ◌||◌, ℕ, List, Bool, true, false,
 use Rattle.std.specs.Prelude.{Option, Some, None, is_some}
 use Rattle.def_term.specs.Tree.{Tree}
 use Rattle.def_explore.specs.Rests.{KeptMessages}
-use Rattle.def_renaming.specs.Renaming.{IsOneToOne, HaveRenamedBeginnings, first_renaming}
+use Rattle.def_renaming.specs.Renaming.{IsOneToOne, HaveRenamedPrefixes, first_renaming}
 use Rattle.def_renaming.proofs.Search.{found_is_sound, renaming_is_found}
 use Rattle.def_compare.specs.Traces.{TraceQuestion, IsPrefixBy, IsShownBy, BeginsTraceBy, orders_in, lists_in, lists_with_messages, prefix_pairs, begins_trace, has_no_more}
 use Rattle.def_compare.specs.Laws.{ComputedPairsShow, ShownHasPairs}
@@ -12,7 +12,7 @@ use Rattle.def_compare.specs.Laws.{ComputedPairsShow, ShownHasPairs}
 
 pub pairs_are_of_prefix : (ms : List Tree) (kept : KeptMessages) (ps : List (ℕ × ℕ)) → prefix_pairs ms kept ≡ Some ps → IsPrefixBy ps ms kept
 pairs_are_of_prefix ms kept ps h =
-    let both : IsOneToOne ps × HaveRenamedBeginnings ps (orders_in kept ms) (lists_in kept) = found_is_sound (orders_in kept ms) (lists_in kept) ps h in
+    let both : IsOneToOne ps × HaveRenamedPrefixes ps (orders_in kept ms) (lists_in kept) = found_is_sound (orders_in kept ms) (lists_in kept) ps h in
     record { one = both.0; first = both.1 }
 
 none_is : {X : Type 0} (x : X) → None ≡ Some x → ⊥

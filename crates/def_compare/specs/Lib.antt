@@ -1,5 +1,7 @@
 pub mod Traces
 pub mod Entries
+pub mod InOrder
 pub mod Laws
 pub mod Output
 pub mod Answers
+pub mod AnswerRows

@@ -4,7 +4,7 @@ use Rattle.std.specs.Prelude.{◌≡◌, ◌==◌, ◌||◌, ℕ, Bool, true, fa
 use Rattle.std.specs.List.{fold, list_any}
 use Rattle.def_term.specs.Tree.{Tree}
 use Rattle.def_explore.specs.Rests.{KeptMessages, kept_messages, kept_by_process, message_process, is_of_process}
-use Rattle.def_renaming.specs.Renaming.{IsOneToOne, HaveRenamedBeginnings, first_renaming}
+use Rattle.def_renaming.specs.Renaming.{IsOneToOne, HaveRenamedPrefixes, first_renaming}
 
 -- the messages of a trace of one session, as a node printed them, and whether the run may have more of them
 pub record TraceQuestion : Type 0 where
@@ -50,12 +50,12 @@ lists_with_messages kept = filter has_message (lists_in kept)
 -- with each pid's partner in its place, one to one, the messages are the first that are kept, in their orders
 pub record IsPrefixBy (ps : List (ℕ × ℕ)) (ms : List Tree) (kept : KeptMessages) : Type 0 where
   pub one : IsOneToOne ps
-  pub first : HaveRenamedBeginnings ps (orders_in kept ms) (lists_in kept)
+  pub first : HaveRenamedPrefixes ps (orders_in kept ms) (lists_in kept)
 
 -- the other way round: with each pid's partner in its place, one to one, the messages that are kept are the first of the trace, in their orders
 pub record BeginsTraceBy (ps : List (ℕ × ℕ)) (ms : List Tree) (kept : KeptMessages) : Type 0 where
   pub one : IsOneToOne ps
-  pub first : HaveRenamedBeginnings ps (lists_with_messages kept) (orders_in kept ms)
+  pub first : HaveRenamedPrefixes ps (lists_with_messages kept) (orders_in kept ms)
 
 -- the trace is a prefix of what is kept, which begins the trace too, unless the run may go on
 pub record IsShownBy (ps : List (ℕ × ℕ)) (a : TraceQuestion) (kept : KeptMessages) : Type 0 where

@@ -2,12 +2,14 @@
 //!
 //! Depends on def_term, def_script, def_run, def_explore and def_renaming. Promises, as laws, that a trace which a
 //! sound entry shows is possible by its journal; that one which no entry shows, where they are complete, is
-//! impossible, so that no run to rest shows it; and that the prefix which is found is the longest.
+//! impossible, so that no run to rest shows it; that a run found by the trace's own order shows the trace by process;
+//! and that the prefix which is found is the longest.
 #![tactic(auto)]
 
 ghost use Rattle.def_compare.specs.Laws.{ComputedPairsShow, ShownHasPairs, MatchIsPossible, NoMatchIsImpossible};
 ghost use Rattle.def_compare.specs.Laws.{PossibleIsNotImpossible, PossibleRests, ImpossibleHasNoRun};
 ghost use Rattle.def_compare.specs.Laws.{PrefixIsLongest, NoRunHasMore};
+ghost use Rattle.def_compare.specs.InOrder.{RunInOrderShows};
 
 /// The partners of pids that are computed are some by which a run shows a trace, and are there where some are.
 pub fn computed_partners_show_a_trace()
@@ -23,6 +25,12 @@ pub fn a_trace_is_possible_or_impossible()
     ensures not_both { PossibleIsNotImpossible }
     ensures rests { PossibleRests }
     ensures no_run { ImpossibleHasNoRun }
+{}
+
+/// A run that a search in total order finds for a trace shows it by process too, where an entry that goes on from its
+/// journal does; and it is at rest, unless it may go on.
+pub fn a_run_in_order_shows_a_trace()
+    ensures { RunInOrderShows }
 {}
 
 /// The prefix that is found begins its entry, and no entry begins with more of the messages. So no run that is

@@ -7,7 +7,7 @@ use Rattle.def_fun.specs.Operators.{FunOperator, operator_binding, level_of}
 use Rattle.def_fun.specs.Tokens as token
 use Rattle.def_fun.specs.Tokens.{FunToken, FunSpan}
 use Rattle.def_fun.specs.Trees.{FunExpr, before, between, FunClause, is_variable_expr, is_list_pattern}
-use Rattle.def_fun.specs.Grammar.{Piece, at_offset, anywhere, expr_pieces, has_level, is_fun_head, head_pieces, comma_pieces, guard_pieces, when_pieces, clause_pieces, clauses_pieces, fun_pieces, are_exprs, are_guards, is_fun_clause, are_fun_clauses}
+use Rattle.def_fun.specs.Grammar.{Piece, at_offset, anywhere, expr_pieces, has_level, is_fun_head, is_level_head, head_pieces, comma_pieces, guard_pieces, when_pieces, clause_pieces, clauses_pieces, fun_pieces, are_exprs, are_guards, is_fun_clause, are_fun_clauses}
 use Rattle.def_fun.specs.Limits.{CLAUSES}
 use Rattle.def_fun.specs.Reading.{OpenPart, in_open_parens, in_open_call, in_open_list, in_open_tail, in_open_tuple, after_left, after_prefix, ExprState, wants, has, gather, fun_expr_step, if_none_open, ended_expr, ClauseSoFar, FunState, before_fun, before_clause, in_head, after_head, in_guard, in_fun_body, after_end, after_stop, head_of_parts, clauses_in_guard, clauses_in_body, with_guard, with_clause, if_sized, on_step, expr_start, head_after, guard_after, body_after, ends_or}
 use Rattle.def_fun.proofs.OpenParts.{each_comma, state_pieces, AllLevel, TIGHT, StateOk, more_levels, comma_more, lower_level, IsGathered, gather_ok}
@@ -118,14 +118,15 @@ fun_state_pieces (in_fun_body c es s) = body_front c ++ (each_comma es ++ state_
 fun_state_pieces (after_end ks) = fun_pieces ks
 fun_state_pieces (after_stop ks) = fun_pieces ks ++ anywhere token.full_stop ∷ []
 
--- a part before `=` is a variable or a list
+-- a part before `=` is a variable or a list, and an expression
 abbrev pub IsFirstPart : Option FunExpr → Type 0
 IsFirstPart None = Unit {0}
-IsFirstPart (Some a) = IsHeadPart None a
+IsFirstPart (Some a) = IsHeadPart None a × (has_level 1 a ≡ true)
 
 pub record ClauseOk (c : ClauseSoFar) : Type 0 where
   pub earlier : AllClauses c.earlier
   pub head : is_fun_head c.head ≡ true
+  pub level : is_level_head c.head ≡ true
   pub guards : are_guards c.guards ≡ true
 
 abbrev pub FunOk : FunState → Type 0
@@ -188,10 +189,14 @@ or_right false b h = h
 head_parts : (a : Option FunExpr) (e : FunExpr) → IsFirstPart a → IsHeadPart a e → is_fun_head (head_of_parts a e) ≡ true
 head_parts None e f (inl v) = ap (λ b. b || is_list_pattern e) v
 head_parts None e f (inr l) = or_right (is_variable_expr e) (is_list_pattern e) l.0
-head_parts (Some a) e (inl u) (inl v) = or_left (is_variable_expr a && (is_variable_expr e || is_list_pattern e)) _ (and_from (is_variable_expr a) _ u (ap (λ b. b || is_list_pattern e) v))
-head_parts (Some a) e (inl u) (inr l) = or_left (is_variable_expr a && (is_variable_expr e || is_list_pattern e)) _ (and_from (is_variable_expr a) _ u (or_right (is_variable_expr e) (is_list_pattern e) l.0))
-head_parts (Some a) e (inr u) (inl v) = or_right (is_variable_expr a && (is_variable_expr e || is_list_pattern e)) _ (and_from (is_list_pattern a) (is_variable_expr e) u.0 v)
-head_parts (Some a) e (inr u) (inr l) = or_left (is_variable_expr a && (is_variable_expr e || is_list_pattern e)) _ (and_from (is_variable_expr a) _ l.1 (or_right (is_variable_expr e) (is_list_pattern e) l.0))
+head_parts (Some a) e (inl u, m) (inl v) = or_left (is_variable_expr a && (is_variable_expr e || is_list_pattern e)) _ (and_from (is_variable_expr a) _ u (ap (λ b. b || is_list_pattern e) v))
+head_parts (Some a) e (inl u, m) (inr l) = or_left (is_variable_expr a && (is_variable_expr e || is_list_pattern e)) _ (and_from (is_variable_expr a) _ u (or_right (is_variable_expr e) (is_list_pattern e) l.0))
+head_parts (Some a) e (inr u, m) (inl v) = or_right (is_variable_expr a && (is_variable_expr e || is_list_pattern e)) _ (and_from (is_list_pattern a) (is_variable_expr e) u.0 v)
+head_parts (Some a) e (inr u, m) (inr l) = or_left (is_variable_expr a && (is_variable_expr e || is_list_pattern e)) _ (and_from (is_variable_expr a) _ l.1 (or_right (is_variable_expr e) (is_list_pattern e) l.0))
+
+head_levels : (a : Option FunExpr) (e : FunExpr) → IsFirstPart a → has_level 1 e ≡ true → is_level_head (head_of_parts a e) ≡ true
+head_levels None e p l = l
+head_levels (Some a) e p l = and_from (has_level 1 a) (has_level 1 e) p.1 l
 
 -- a list that is open stays open
 open_stays : (d : FunExpr) (fs : List OpenPart) (e : FunExpr) → OuterList fs → if_none_open (gather 1 d fs) ≡ Some e → ⊥
@@ -249,17 +254,17 @@ head_closes ks at a e ss h =
     ∙ closes_regroup (anywhere token.fun_word) (each_clause ks) (at_offset at token.open_paren) (part_pieces a) ss (anywhere token.close_paren)
 
 -- after a part of a head that may end
-head_token : (ks : List FunClause) (at : ℕ) (a : Option FunExpr) (s : ExprState) (e : FunExpr) (here : ℕ) (t : FunToken) (r : Result FunState FaultKind) (s' : FunState) (limit : ℕ) (sized : Bool) → FunOk (in_head ks at a s) → IsHeadPart a e → state_pieces s ≡ expr_pieces e
+head_token : (ks : List FunClause) (at : ℕ) (a : Option FunExpr) (s : ExprState) (e : FunExpr) (here : ℕ) (t : FunToken) (r : Result FunState FaultKind) (s' : FunState) (limit : ℕ) (sized : Bool) → FunOk (in_head ks at a s) → IsHeadPart a e → has_level 1 e ≡ true → state_pieces s ≡ expr_pieces e
     → (r ≡ Ok s' → FunGoes (fun_state_pieces (in_head ks at a s)) here t s') → head_after limit sized ks at a e t r ≡ Ok s' → FunGoes (fun_state_pieces (in_head ks at a s)) here t s'
-head_token ks at a s e here token.close_paren r s' limit sized ok p same later h =
-    goes_to _ here token.close_paren _ s' (same_state _ s' h) (any_goes _ here token.close_paren _ (record { earlier = ok.0; head = head_parts a e ok.1 p; guards = refl }, refl) (head_closes ks at a e (state_pieces s) same))
-head_token ks at None s e here token.match r s' limit sized ok p same later h =
-    goes_to _ here token.match _ s' (same_state _ s' h) (any_goes _ here token.match _ (ok.0, p, tt, tt) (match_regroup (head_front ks at) (expr_pieces e) (anywhere token.match) ∙ ap (λ x. (head_front ks at ++ x) ++ anywhere token.match ∷ []) (sym same)))
-head_token ks at (Some b) s e here token.match r s' limit sized ok p same later h = later h
-head_token ks at a s e here t r s' limit sized ok p same later h = later h
+head_token ks at a s e here token.close_paren r s' limit sized ok p l same later h =
+    goes_to _ here token.close_paren _ s' (same_state _ s' h) (any_goes _ here token.close_paren _ (record { earlier = ok.0; head = head_parts a e ok.1 p; level = head_levels a e ok.1 l; guards = refl }, refl) (head_closes ks at a e (state_pieces s) same))
+head_token ks at None s e here token.match r s' limit sized ok p l same later h =
+    goes_to _ here token.match _ s' (same_state _ s' h) (any_goes _ here token.match _ (ok.0, (p, l), tt, tt) (match_regroup (head_front ks at) (expr_pieces e) (anywhere token.match) ∙ ap (λ x. (head_front ks at ++ x) ++ anywhere token.match ∷ []) (sym same)))
+head_token ks at (Some b) s e here token.match r s' limit sized ok p l same later h = later h
+head_token ks at a s e here t r s' limit sized ok p l same later h = later h
 
 guard_ok : (c : ClauseSoFar) (g : List FunExpr) → ClauseOk c → are_exprs g ≡ true → ClauseOk (with_guard c g)
-guard_ok c g ok h = record { earlier = ok.earlier; head = ok.head; guards = guards_more c.guards g ok.guards h }
+guard_ok c g ok h = record { earlier = ok.earlier; head = ok.head; level = ok.level; guards = guards_more c.guards g ok.guards h }
 
 -- a comma after an expression of a row
 row_comma : (ps : List Piece) (es : List FunExpr) (e : FunExpr) (ss : List Piece) → ss ≡ expr_pieces e → ps ++ (each_comma (es ++ e ∷ []) ++ []) ≡ (ps ++ (each_comma es ++ ss)) ++ anywhere token.comma ∷ []
@@ -286,7 +291,9 @@ guard_token c es s e here token.arrow r s' limit sized ok l same later h =
 guard_token c es s e here t r s' limit sized ok l same later h = later h
 
 clause_ok : (c : ClauseSoFar) (b : List FunExpr) → ClauseOk c → are_exprs b ≡ true → is_fun_clause (record { at = c.at; head = c.head; guards = c.guards; body = b }) ≡ true
-clause_ok c b ok h = and_from (is_fun_head c.head) (are_guards c.guards && are_exprs b) ok.head (and_from (are_guards c.guards) (are_exprs b) ok.guards h)
+clause_ok c b ok h =
+    let parts = and_from (are_guards c.guards) (are_exprs b) ok.guards h in
+    and_from (is_fun_head c.head) (is_level_head c.head && (are_guards c.guards && are_exprs b)) ok.head (and_from (is_level_head c.head) (are_guards c.guards && are_exprs b) ok.level parts)
 
 -- a clause with its body, after the clauses before it
 clause_ends : (c : ClauseSoFar) (es : List FunExpr) (e : FunExpr) (ss : List Piece) → ss ≡ expr_pieces e → body_front c ++ (each_comma es ++ ss) ≡ anywhere token.fun_word ∷ (each_clause c.earlier ++ clause_pieces (record { at = c.at; head = c.head; guards = c.guards; body = es ++ e ∷ [] }))
@@ -342,4 +349,4 @@ module _ (limit : ℕ) (sized : Bool) where
   pub head_by : (ks : List FunClause) (at : ℕ) (a : Option FunExpr) (s : ExprState) (x : FunSpan) (s' : FunState) (o : Option FunExpr) → ended_expr s ≡ o → FunOk (in_head ks at a s) → (s ≡ wants [] → ⊥) → ends_or limit sized o (λ e r. head_after limit sized ks at a e x.token r) (on_step (in_head ks at a) (fun_expr_step true limit sized s x)) ≡ Ok s'
       → FunGoes (fun_state_pieces (in_head ks at a s)) x.from x.token s'
   head_by ks at a s x s' None e ok started h = head_within ks at a s x s' ok started h
-  head_by ks at a s x s' (Some d) e ok started h = let q = ended_ok s d ok.2 e in head_token ks at a s d x.from x.token (on_step (in_head ks at a) (fun_expr_step true limit sized s x)) s' limit sized ok (whole_part a s d ok.3 e) q.same (λ k. head_within ks at a s x s' ok started k) h
+  head_by ks at a s x s' (Some d) e ok started h = let q = ended_ok s d ok.2 e in head_token ks at a s d x.from x.token (on_step (in_head ks at a) (fun_expr_step true limit sized s x)) s' limit sized ok (whole_part a s d ok.3 e) q.level q.same (λ k. head_within ks at a s x s' ok started k) h

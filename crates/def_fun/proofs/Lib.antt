@@ -17,3 +17,4 @@ pub mod Translations
 pub mod Spans
 pub mod NumberedNames
 pub mod LevelRows
+pub mod NamesGrow

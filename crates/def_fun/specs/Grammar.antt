@@ -89,6 +89,11 @@ abbrev pub is_fun_head : FunHead → Bool
 is_fun_head (alone e) = is_variable_expr e || is_list_pattern e
 is_fun_head (both a b) = (is_variable_expr a && (is_variable_expr b || is_list_pattern b)) || (is_list_pattern a && is_variable_expr b)
 
+-- each part of a head is an expression, so that a list with a tail has an element before it
+abbrev pub is_level_head : FunHead → Bool
+is_level_head (alone e) = has_level 1 e
+is_level_head (both a b) = has_level 1 a && has_level 1 b
+
 -- the tokens of a head
 abbrev pub head_pieces : FunHead → List Piece
 head_pieces (alone e) = expr_pieces e
@@ -138,7 +143,7 @@ are_guards (g ∷ gs) = are_exprs g && are_guards gs
 
 -- a head, guards and a body
 abbrev pub is_fun_clause : FunClause → Bool
-is_fun_clause k = is_fun_head k.head && (are_guards k.guards && are_exprs k.body)
+is_fun_clause k = is_fun_head k.head && (is_level_head k.head && (are_guards k.guards && are_exprs k.body))
 
 -- each is a clause, and there is one at least
 abbrev pub are_fun_clauses : List FunClause → Bool

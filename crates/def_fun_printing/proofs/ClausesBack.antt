@@ -14,13 +14,12 @@ use Rattle.def_fun.specs.Trees.{FunExpr, FunExprs, each_expr, first_byte, nestin
 use Rattle.def_fun.specs.Tokens as token
 use Rattle.def_fun.specs.Tokens.{FunToken, FunStands, FunSpan}
 use Rattle.def_fun.specs.Scan.{fun_span}
-use Rattle.def_fun.specs.Grammar.{anywhere, ArePieces, expr_pieces, pieces_of, has_one, has_level, is_fun_head, comma_pieces, when_pieces, clause_pieces, are_exprs, are_guards, is_fun_clause}
+use Rattle.def_fun.specs.Grammar.{anywhere, ArePieces, expr_pieces, pieces_of, has_one, has_level, is_fun_head, is_level_head, comma_pieces, when_pieces, clause_pieces, are_exprs, are_guards, is_fun_clause}
 use Rattle.def_fun.specs.Limits.{FUN_DEPTH, is_sized, is_sized_row, are_sized_guards, is_sized_clause, clause_count, head_nesting, row_nesting, guards_nesting}
 use Rattle.def_fun.specs.Refusals.{too_deep_at, then_fun}
 use Rattle.def_fun.specs.Variables.{names_of, variables_in, with_names}
 use Rattle.def_fun.specs.Translation.{HEAD_DEPTH, PART_DEPTH, within_depth, pattern_term, head_term, part_terms, list_term, alternative_term, alternatives_of}
 use Rattle.def_fun.specs.FunTexts.{then_print, expr_of_term, the_head, the_condition, the_expression, PrintedPattern, head_of_term, exprs_of_terms, reason_at, then_clause, joined_with, expr_text, expr_texts, parts_printed, when_text, body_printed, clause_of_parts_printed, clause_printed}
-use Rattle.def_fun_printing.specs.HeadLevels.{is_level_head}
 use Rattle.def_fun_printing.proofs.Offsets.{unplaced, unplaced_each, level_same, nesting_same, sized_same, pattern_same, patterns_same, variables_same, pattern_alike}
 use Rattle.def_fun_printing.proofs.TextTokens.{Follows, follows_by, one_span, blank_before, open_paren_front, close_paren_front, arrow_front, when_front}
 use Rattle.def_fun_printing.proofs.ExprTexts.{HasText, HaveText, texts_of, joined_texts, pieces_joined, Spans, written, all_written}
@@ -37,7 +36,6 @@ guards_of (tree.more e es) = each_expr (tree.more e es) ∷ []
 -- a clause of a fun that is one clause of a specification, within the limits
 pub record IsGoodClause (d : Dialect) (t : Tree) (k : FunClause) : Type 0 where
   pub is : is_fun_clause k ≡ true
-  pub level : is_level_head k.head ≡ true
   pub sized : is_sized_clause k ≡ true
   pub deep : max (head_nesting k.head) (max (guards_nesting k.guards) (row_nesting k.body)) ≤ FUN_DEPTH
   pub counted : clause_count k ≡ 1
@@ -305,8 +303,10 @@ module _ (d : Dialect) (h : Tree) (cs bs : Trees) where
               tokens = w.tokens;
               pieces = w.pieces;
               good = record {
-                is = and_from (is_fun_head (alone w.head)) _ (same_head w.head p.head.0 same ∙ head.head) (and_from (are_guards (guards_of w.conditions)) (are_exprs (each_expr w.body)) (guards_level w.conditions c_fine) (b_fine.levels some));
-                level = sym (level_same 1 w.head) ∙ ap (has_level 1) same ∙ head.level;
+                is =
+                    and_from (is_fun_head (alone w.head)) (is_level_head (alone w.head) && (are_guards (guards_of w.conditions) && are_exprs (each_expr w.body))) (same_head w.head p.head.0 same ∙ head.head)
+                    (and_from (is_level_head (alone w.head)) (are_guards (guards_of w.conditions) && are_exprs (each_expr w.body)) (sym (level_same 1 w.head) ∙ ap (has_level 1) same ∙ head.level)
+                    (and_from (are_guards (guards_of w.conditions)) (are_exprs (each_expr w.body)) (guards_level w.conditions c_fine) (b_fine.levels some)));
                 sized = and_from (is_sized w.head) _ (sym (sized_same w.head) ∙ ap is_sized same ∙ head.sized) (and_from (are_sized_guards (guards_of w.conditions)) (is_sized_row (each_expr w.body)) (guards_sized w.conditions c_fine) b_fine.sized);
                 deep = omega (arith, head_deep, head_nesting_is, guard_deep, body_deep, dh);
                 counted = guards_counted w.conditions;

@@ -6,10 +6,9 @@ use Rattle.def_text.specs.Faults.{FaultKind}
 use Rattle.def_fun.specs.Tokens as token
 use Rattle.def_fun.specs.Tokens.{FunToken, FunSpan}
 use Rattle.def_fun.specs.Trees.{FunExpr, variable, list, list_onto, nesting_depth, is_pattern, is_variable_expr, is_list_pattern, FunHead, alone, both, FunClause}
-use Rattle.def_fun.specs.Grammar.{anywhere, ArePieces, expr_pieces, has_level, is_fun_head, head_pieces, comma_pieces, guard_pieces, when_pieces, clause_pieces, clauses_pieces, fun_pieces, are_exprs, are_guards, is_fun_clause, are_fun_clauses, DerivesFun}
+use Rattle.def_fun.specs.Grammar.{anywhere, ArePieces, expr_pieces, has_level, is_fun_head, is_level_head, head_pieces, comma_pieces, guard_pieces, when_pieces, clause_pieces, clauses_pieces, fun_pieces, are_exprs, are_guards, is_fun_clause, are_fun_clauses, DerivesFun}
 use Rattle.def_fun.specs.Limits.{CLAUSES, is_sized, each_sized, is_sized_row, are_sized_guards, is_sized_head, is_sized_clause, are_sized_clauses, clause_count, spec_clauses, head_nesting, row_nesting, guards_nesting, clauses_nesting, FunFits}
 use Rattle.def_fun.specs.Reading.{ExprState, wants, has, fun_expr_step, if_none_open, ended_expr, ClauseSoFar, FunState, before_fun, before_clause, in_head, after_head, in_guard, in_fun_body, after_end, after_stop, head_of_parts, begins_head, clauses_in_guard, clauses_in_body, with_guard, with_clause, if_sized, on_step, expr_start, begin_fun, begin_clause, begin_guard, stop_fun, head_after, guard_after, body_after, ends_or, head_step, fun_step, after_fun_step, fun_run, fun_finish, read_fun}
-use Rattle.def_fun_printing.specs.HeadLevels.{is_level_head, are_level_heads}
 use Rattle.def_fun_printing.proofs.ExprReads.{split_pieces, is_end, GoesOn, IsWithin, sized_in, stands_in, Passes, Reads, expr_reads}
 use Rattle.def_fun_printing.proofs.Results.{same_ok}
 
@@ -417,16 +416,17 @@ module _ (limit : ℕ) where
       ∙ run_step (in_head ks k.at r.part r.state) (after_head (so_far ks k [])) x (zs ++ rest) (paren_step ks k.at r.part r.state r.last x r.within r.ended is.0 ∙ ap (λ h. Ok (after_head (record { earlier = ks; at = k.at; head = h; guards = [] }))) r.are))
       (later zs is.1)
 
-  clause_read : (ks : List FunClause) (k : FunClause) (xs rest : List FunSpan) → ArePieces (clause_pieces k) xs → is_fun_clause k ≡ true → is_level_head k.head ≡ true → max (head_nesting k.head) (max (guards_nesting k.guards) (row_nesting k.body)) ≤ limit → is_sized_clause k ≡ true → spec_clauses ks + clause_count k ≤ CLAUSES
+  clause_read : (ks : List FunClause) (k : FunClause) (xs rest : List FunSpan) → ArePieces (clause_pieces k) xs → is_fun_clause k ≡ true → max (head_nesting k.head) (max (guards_nesting k.guards) (row_nesting k.body)) ≤ limit → is_sized_clause k ≡ true → spec_clauses ks + clause_count k ≤ CLAUSES
       → IsClauses (ks ++ k ∷ []) (spec_clauses ks + clause_count k) (before_clause ks) xs rest
-  clause_read ks k [] rest h is l deep size few = absurd h
-  clause_read ks k (x ∷ xs) rest h is l deep size few =
-      let p = and_parts (is_fun_head k.head) (are_guards k.guards && are_exprs k.body) is in
-      let q = and_parts (are_guards k.guards) (are_exprs k.body) p.1 in
+  clause_read ks k [] rest h is deep size few = absurd h
+  clause_read ks k (x ∷ xs) rest h is deep size few =
+      let p = and_parts (is_fun_head k.head) (is_level_head k.head && (are_guards k.guards && are_exprs k.body)) is in
+      let l = and_parts (is_level_head k.head) (are_guards k.guards && are_exprs k.body) p.1 in
+      let q = and_parts (are_guards k.guards) (are_exprs k.body) l.1 in
       let s = and_parts (is_sized_head k.head) (are_sized_guards k.guards && is_sized_row k.body) size in
       let t = and_parts (are_sized_guards k.guards) (is_sized_row k.body) s.1 in
       let cut = split_pieces (head_pieces k.head) (anywhere token.close_paren ∷ (when_pieces k.guards ++ anywhere token.arrow ∷ comma_pieces k.body)) xs h.1 in
-      let head = head_reads ks k.at k.head cut.front (cut.rest ++ rest) p.0 cut.first l (omega (arith, deep)) s.0 in
+      let head = head_reads ks k.at k.head cut.front (cut.rest ++ rest) p.0 cut.first l.0 (omega (arith, deep)) s.0 in
       let rest_of = clause_after_head ks k xs cut.front cut.rest rest head cut.split cut.later
       (λ us here. guards_and_body ks k k.guards us rest refl here q.0 (omega (arith, deep)) t.0 few q.1 (omega (arith, deep)) t.1) in
       moved (ks ++ k ∷ []) (spec_clauses ks + clause_count k) (before_clause ks) (in_head ks k.at None expr_start) (x ∷ xs) (x ∷ []) xs rest refl
@@ -458,15 +458,14 @@ module _ (limit : ℕ) where
       next.1 in
       (next.0, subst (λ us. IsClauses us next.0 (before_clause ks) xs rest) (append_assoc ks (k ∷ []) (l ∷ ls)) one)
 
-  clauses_read : (ls : List FunClause) (k : FunClause) (ks : List FunClause) (xs rest : List FunSpan) → ArePieces (clauses_pieces (k ∷ ls)) xs → EachClause (k ∷ ls) → are_level_heads (k ∷ ls) ≡ true → clauses_nesting (k ∷ ls) ≤ limit → are_sized_clauses (k ∷ ls) ≡ true → spec_clauses ks + spec_clauses (k ∷ ls) ≤ CLAUSES → SomeClauses (ks ++ k ∷ ls) (before_clause ks) xs rest
-  clauses_read [] k ks xs rest h is l deep size few = (spec_clauses ks + clause_count k, clause_read ks k xs rest h is.0 (and_parts (is_level_head k.head) true l).0 (omega (arith, deep)) (and_parts (is_sized_clause k) true size).0 (omega (arith, few)))
-  clauses_read (m ∷ ls) k ks xs rest h is l deep size few =
-      let levels = and_parts (is_level_head k.head) (are_level_heads (m ∷ ls)) l in
+  clauses_read : (ls : List FunClause) (k : FunClause) (ks : List FunClause) (xs rest : List FunSpan) → ArePieces (clauses_pieces (k ∷ ls)) xs → EachClause (k ∷ ls) → clauses_nesting (k ∷ ls) ≤ limit → are_sized_clauses (k ∷ ls) ≡ true → spec_clauses ks + spec_clauses (k ∷ ls) ≤ CLAUSES → SomeClauses (ks ++ k ∷ ls) (before_clause ks) xs rest
+  clauses_read [] k ks xs rest h is deep size few = (spec_clauses ks + clause_count k, clause_read ks k xs rest h is.0 (omega (arith, deep)) (and_parts (is_sized_clause k) true size).0 (omega (arith, few)))
+  clauses_read (m ∷ ls) k ks xs rest h is deep size few =
       let sizes = and_parts (is_sized_clause k) (are_sized_clauses (m ∷ ls)) size in
       let cut = split_pieces (clause_pieces k) (anywhere token.semicolon ∷ clauses_pieces (m ∷ ls)) xs h in
       let joined = clauses_joined ks (k ∷ []) in
-      clause_then ks k m ls xs cut.front cut.rest rest (clause_read ks k cut.front (cut.rest ++ rest) cut.first is.0 levels.0 (omega (arith, deep)) sizes.0 (omega (arith, few))) cut.split cut.later (omega (arith, few))
-      (λ us here. clauses_read ls m (ks ++ k ∷ []) us rest here is.1 levels.1 (omega (arith, deep)) sizes.1 (omega (arith, few, joined)))
+      clause_then ks k m ls xs cut.front cut.rest rest (clause_read ks k cut.front (cut.rest ++ rest) cut.first is.0 (omega (arith, deep)) sizes.0 (omega (arith, few))) cut.split cut.later (omega (arith, few))
+      (λ us here. clauses_read ls m (ks ++ k ∷ []) us rest here is.1 (omega (arith, deep)) sizes.1 (omega (arith, few, joined)))
 
   end_reads : (ks : List FunClause) (xs ys zs rest : List FunSpan) → SomeClauses ks (before_clause []) ys (zs ++ rest) → xs ≡ ys ++ zs → ArePieces (anywhere token.end_word ∷ []) zs → fun_run limit true (before_clause []) (xs ++ rest) ≡ fun_run limit true (after_end ks) rest
   end_reads ks xs ys [] rest r split is = absurd is
@@ -477,14 +476,14 @@ module _ (limit : ℕ) where
       ∙ run_step (in_fun_body c.so_far c.earlier c.state) (after_end (with_clause c.so_far (c.earlier ++ c.last ∷ []))) x (zs ++ rest) (body_end c.so_far c.earlier c.state c.last x c.ended is.0)
       ∙ ap₂ (λ us vs. fun_run limit true (after_end us) (vs ++ rest)) c.are is.1
 
-  fun_reads : (ks : List FunClause) (xs rest : List FunSpan) → ArePieces (fun_pieces ks) xs → are_fun_clauses ks ≡ true → are_level_heads ks ≡ true → FunFits limit true ks → fun_run limit true before_fun (xs ++ rest) ≡ fun_run limit true (after_end ks) rest
-  fun_reads [] xs rest h is l fits = absurd (let no : false ≡ true = is in cc)
-  fun_reads (k ∷ ks) [] rest h is l fits = absurd h
-  fun_reads (k ∷ ks) (x ∷ xs) rest h is l fits =
+  fun_reads : (ks : List FunClause) (xs rest : List FunSpan) → ArePieces (fun_pieces ks) xs → are_fun_clauses ks ≡ true → FunFits limit true ks → fun_run limit true before_fun (xs ++ rest) ≡ fun_run limit true (after_end ks) rest
+  fun_reads [] xs rest h is fits = absurd (let no : false ≡ true = is in cc)
+  fun_reads (k ∷ ks) [] rest h is fits = absurd h
+  fun_reads (k ∷ ks) (x ∷ xs) rest h is fits =
       let cut = split_pieces (clauses_pieces (k ∷ ks)) (anywhere token.end_word ∷ []) xs h.1 in
       let sizes = and_parts (are_sized_clauses (k ∷ ks)) (nat_le (spec_clauses (k ∷ ks)) CLAUSES) fits.sizes in
       let few = leb-true (spec_clauses (k ∷ ks)) CLAUSES sizes.1 in
-      run_step before_fun (before_clause []) x (xs ++ rest) (ap begin_fun h.0) ∙ end_reads (k ∷ ks) xs cut.front cut.rest rest (clauses_read ks k [] cut.front (cut.rest ++ rest) cut.first (each_clause (k ∷ ks) is) l fits.nests sizes.0 (omega (arith, few))) cut.split cut.later
+      run_step before_fun (before_clause []) x (xs ++ rest) (ap begin_fun h.0) ∙ end_reads (k ∷ ks) xs cut.front cut.rest rest (clauses_read ks k [] cut.front (cut.rest ++ rest) cut.first (each_clause (k ∷ ks) is) fits.nests sizes.0 (omega (arith, few))) cut.split cut.later
 
   stop_reads : (ks : List FunClause) (ts xs zs : List FunSpan) → fun_run limit true before_fun (xs ++ zs) ≡ fun_run limit true (after_end ks) zs → ts ≡ xs ++ zs → ArePieces (anywhere token.full_stop ∷ []) zs → read_fun limit true ts ≡ Ok ks
   stop_reads ks ts xs [] run split is = absurd is
@@ -492,12 +491,12 @@ module _ (limit : ℕ) where
       ap (read_fun limit true) split ∙ ap fun_finish (run ∙ run_step (after_end ks) (after_stop ks) x zs (ap (stop_fun ks) is.0) ∙ ap (λ us. fun_run limit true (after_stop ks) us) is.1)
 
   -- what tokens spell is read, within the limits
-  pub derived_is_read : (ts : List FunSpan) (ks : List FunClause) → DerivesFun ts ks → are_level_heads ks ≡ true → FunFits limit true ks → read_fun limit true ts ≡ Ok ks
-  derived_is_read ts ks d l fits =
+  pub derived_is_read : (ts : List FunSpan) (ks : List FunClause) → DerivesFun ts ks → FunFits limit true ks → read_fun limit true ts ≡ Ok ks
+  derived_is_read ts ks d fits =
       elim d.tokens [
-        | inl h ↦ ap (λ us. fun_finish (fun_run limit true before_fun us)) (sym (append-nil ts)) ∙ ap fun_finish (fun_reads ks ts [] h d.clauses l fits)
-        | inr h ↦ (let cut = split_pieces (fun_pieces ks) (anywhere token.full_stop ∷ []) ts h in stop_reads ks ts cut.front cut.rest (fun_reads ks cut.front cut.rest cut.first d.clauses l fits) cut.split cut.later)
+        | inl h ↦ ap (λ us. fun_finish (fun_run limit true before_fun us)) (sym (append-nil ts)) ∙ ap fun_finish (fun_reads ks ts [] h d.clauses fits)
+        | inr h ↦ (let cut = split_pieces (fun_pieces ks) (anywhere token.full_stop ∷ []) ts h in stop_reads ks ts cut.front cut.rest (fun_reads ks cut.front cut.rest cut.first d.clauses fits) cut.split cut.later)
       ]
 
-pub derived_is_one : (limit : ℕ) (ts : List FunSpan) (ks ls : List FunClause) → DerivesFun ts ks → are_level_heads ks ≡ true → FunFits limit true ks → DerivesFun ts ls → are_level_heads ls ≡ true → FunFits limit true ls → ks ≡ ls
-derived_is_one limit ts ks ls d l fits e m more = same_ok ks ls (sym (derived_is_read limit ts ks d l fits) ∙ derived_is_read limit ts ls e m more)
+pub derived_is_one : (limit : ℕ) (ts : List FunSpan) (ks ls : List FunClause) → DerivesFun ts ks → FunFits limit true ks → DerivesFun ts ls → FunFits limit true ls → ks ≡ ls
+derived_is_one limit ts ks ls d fits e more = same_ok ks ls (sym (derived_is_read limit ts ks d fits) ∙ derived_is_read limit ts ls e more)

@@ -25,7 +25,6 @@ use Rattle.def_fun.specs.FunTexts.{then_clause, joined_with, clause_printed, cla
 use Rattle.def_fun.proofs.TokenSound.{same_fun_tokens}
 use Rattle.def_fun.proofs.TokenLists.{listed_are}
 use Rattle.def_fun.proofs.Translations.{then_ok}
-use Rattle.def_fun_printing.specs.HeadLevels.{is_level_head, are_level_heads}
 use Rattle.def_fun_printing.proofs.TextTokens.{Follows, follows_by, one_span, blank_before, semicolon_front, fun_front, end_front}
 use Rattle.def_fun_printing.proofs.ExprTexts.{pieces_joined, Spans}
 use Rattle.def_fun_printing.proofs.FunReads.{derived_is_read}
@@ -150,13 +149,12 @@ fun_written d t ts us h =
 -- ---- what the clauses are
 
 record AreGood (ts : Trees) (ks : List FunClause) : Type 0 where
-  pub levels : are_level_heads ks ≡ true
   pub sized : are_sized_clauses ks ≡ true
   pub deep : clauses_nesting ks ≤ FUN_DEPTH
   pub counted : spec_clauses ks ≡ count ts
 
 good_clauses : (d : Dialect) (ts : Trees) (ks : List FunClause) → EachGood d ts ks → AreGood ts ks
-good_clauses d none ks h = subst (AreGood none) (sym h) (record { levels = refl; sized = refl; deep = omega arith; counted = refl })
+good_clauses d none ks h = subst (AreGood none) (sym h) (record { sized = refl; deep = omega arith; counted = refl })
 good_clauses d (more t ts) ks h =
     let k = h.0 in
     let g = h.3 in
@@ -167,7 +165,6 @@ good_clauses d (more t ts) ks h =
     let more_counted = r.counted in
     subst (AreGood (more t ts)) (sym h.2)
     (record {
-      levels = and_from (is_level_head k.head) (are_level_heads h.1) g.level r.levels;
       sized = and_from (is_sized_clause k) (are_sized_clauses h.1) g.sized r.sized;
       deep = omega (arith, deep, more_deep);
       counted = omega (arith, counted, more_counted);
@@ -235,7 +232,7 @@ written_is_read d t ts text f size short spec_short =
     let derives : DerivesFun f.spans ks = record { tokens = inl f.pieces; clauses = are_clauses d t ts ks f.good } in
     let fits : FunFits FUN_DEPTH true ks = record { nests = g.deep; sizes = and_from (are_sized_clauses ks) (nat_le (spec_clauses ks) CLAUSES) g.sized (le-leb (spec_clauses ks) CLAUSES (omega (arith, counted, few))) } in
     let spans : fun_spans text ≡ f.spans = same_fun_tokens text (fun_spans text) f.spans (listed_are text) f.tokens in
-    let read : read_fun FUN_DEPTH true (fun_spans text) ≡ Ok ks = ap (read_fun FUN_DEPTH true) spans ∙ derived_is_read FUN_DEPTH f.spans ks derives g.levels fits in
+    let read : read_fun FUN_DEPTH true (fun_spans text) ≡ Ok ks = ap (read_fun FUN_DEPTH true) spans ∙ derived_is_read FUN_DEPTH f.spans ks derives fits in
     let fun_is : fun_of_text text ≡ Ok ks = cond-true (nat_le (length text) LENGTH) _ _ (le-leb (length text) LENGTH short) ∙ ap (read_or_refusal (length text)) read in
     let terms = elements-of (more t ts) in
     let tree_is : tree_of_fun d ks ≡ Ok (term.list (more t ts)) =

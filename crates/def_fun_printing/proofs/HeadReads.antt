@@ -17,7 +17,7 @@ use Rattle.def_spec.specs.Reading.{then_read, is_dollar_number, pattern_of_kind,
 use Rattle.def_fun.specs.Trees as tree
 use Rattle.def_fun.specs.Trees.{FunExpr, FunExprs, first_byte, joined_codes, is_variable_expr, is_list_pattern, FunHead, alone, both, FunClause}
 use Rattle.def_fun.specs.Tokens.{FunSpan}
-use Rattle.def_fun.specs.Grammar.{has_level, is_fun_head, are_exprs, are_guards, are_fun_clauses, DerivesFun}
+use Rattle.def_fun.specs.Grammar.{has_level, is_fun_head, is_level_head, are_exprs, are_guards, are_fun_clauses, DerivesFun}
 use Rattle.def_fun.specs.Limits.{spec_clauses}
 use Rattle.def_fun.specs.Refusals.{FunRefusal, too_large_at, too_deep_at, head_atom, list_with_tail, minus_alone, whole_head, OrRefusal, then_fun}
 use Rattle.def_fun.specs.Variables.{ClauseNames, ANY, dollar_name, name_of_variable, name_of_whole, matched_part, names_of, variables_in, variables_in_each, is_of_whole, with_name, with_names, number_among, VariableKind, the_whole, anything_there, of_number, of_no_head, kind_of_number, variable_kind}
@@ -402,8 +402,8 @@ module _ (d : Dialect) where
   fun_clauses_read : (ks : List FunClause) (ts us : List Tree) → EachClause ks → EachRead ts → with_fun_clauses d ts ks ≡ Ok us → EachRead us
   fun_clauses_read [] ts us l each h = subst EachRead (same_ok ts us h) each
   fun_clauses_read (k ∷ ks) ts us l each h =
-      let p = and_parts (is_fun_head k.head) (are_guards k.guards && are_exprs k.body) l.0 in
-      let q = and_parts (are_guards k.guards) (are_exprs k.body) p.1 in
+      let p = and_parts (is_fun_head k.head) (is_level_head k.head && (are_guards k.guards && are_exprs k.body)) l.0 in
+      let q = and_parts (are_guards k.guards) (are_exprs k.body) (and_parts (is_level_head k.head) (are_guards k.guards && are_exprs k.body) p.1).1 in
       let a = then_ok (with_alternatives d k ts (alternatives_of k.guards)) (λ vs. with_fun_clauses d vs ks) us h in
       fun_clauses_read ks a.0 us l.1 (alternatives_read k (alternatives_of k.guards) ts a.0 p.0 (rows_level k.guards q.0) q.1 each a.1) a.2
 

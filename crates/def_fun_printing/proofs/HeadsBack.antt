@@ -20,12 +20,13 @@ use Rattle.def_fun.specs.Refusals.{then_fun}
 use Rattle.def_fun.specs.Variables.{ClauseNames, ANY, dollar_name, variables_in, variables_in_each, with_name, with_names, number_among, of_number, kind_of_number, variable_kind}
 use Rattle.def_fun.specs.Translation.{VARIABLES, variable_term, is_variable_atom, pattern_term, pattern_terms}
 use Rattle.def_fun.specs.FunTexts.{wrong_order, no_head_atom, no_pid, then_print, numbered_variable, integer_expr, is_character_code, are_character_codes, is_text, string_expr, PrintedPattern, PrintedPatterns, pattern_atom, pattern_of_term, patterns_of_terms, head_of_term}
+use Rattle.def_fun.proofs.NamesGrow.{names_after}
 use Rattle.def_fun.proofs.NumberedNames.{same_name, equal_names, other_name}
 use Rattle.def_fun_printing.proofs.NumberAtoms.{dollar_back}
 use Rattle.def_fun_printing.proofs.Offsets.{unplaced, unplaced_each}
 use Rattle.def_fun_printing.proofs.ExprTexts.{HasText, HaveText}
 use Rattle.def_fun_printing.proofs.ExprsBack.{number_name, number_sized, text_back}
-use Rattle.def_fun_printing.proofs.PrintedHeads.{names_after, last_number}
+use Rattle.def_fun_printing.proofs.PrintedHeads.{last_number}
 use Rattle.def_fun_printing.proofs.Results.{same_ok, no_ok, print_ok, read_ok}
 
 -- ---- results

@@ -1,5 +1,5 @@
 -- Rows: what the premises of the laws are for, and specifications with what they are printed as and what that has.
-use Rattle.std.proofs.Common.{◌≡◌, ℕ, zero, suc, pos, negsuc, List, [], ◌∷◌, false, Result, Ok, Err, codes, refl, inl}
+use Rattle.std.proofs.Common.{◌≡◌, ℕ, zero, suc, pos, negsuc, List, [], ◌∷◌, false, Result, Ok, Err, codes, refl}
 use Rattle.std.specs.Fmt.{digits}
 use Rattle.def_term.specs.Tree.{Tree, int, atom, list, tuple, none, more, depth, of_elements}
 use Rattle.def_term.specs.Names.{word}
@@ -8,31 +8,22 @@ use Rattle.def_text.specs.Writable.{is_writable}
 use Rattle.def_text.specs.Limits.{sizes_fit}
 use Rattle.def_spec.specs.Expressions.{for_calls}
 use Rattle.def_spec.specs.Reading.{badarg, spec_of}
-use Rattle.def_fun.specs.Tokens.{FunSpan}
 use Rattle.def_fun.specs.Trees as tree
 use Rattle.def_fun.specs.Trees.{alone, FunClause}
-use Rattle.def_fun.specs.Grammar.{DerivesFun}
-use Rattle.def_fun.specs.Scan.{fun_spans}
+use Rattle.def_fun.specs.Grammar.{are_fun_clauses}
 use Rattle.def_fun.specs.Translation.{tree_of_fun}
 use Rattle.def_fun.specs.Answers.{fun_answer}
 use Rattle.def_fun.specs.FunTexts.{NoFun, no_fun_line, fun_printed}
-use Rattle.def_fun_printing.specs.HeadLevels.{are_level_heads}
 
 -- ---- a list with a tail in a head
 
 -- fun([|X]) -> X end
-abbrev no_element_tokens : List FunSpan
-no_element_tokens = fun_spans (codes "fun([|X]) -> X end")
-
 abbrev no_element : List FunClause
 no_element = record { at = 3; head = alone (tree.list_onto 4 tree.none (tree.variable 6 (codes "X"))); guards = []; body = tree.variable 13 (codes "X") ∷ [] } ∷ []
 
--- the grammar has it, and no text is read so
-pub no_element_is_spelled : DerivesFun no_element_tokens no_element
-no_element_is_spelled = record { tokens = inl (refl, ((refl, refl), ((refl, refl), (refl, ((refl, refl), (refl, (refl, (refl, ((refl, refl), (refl, refl)))))))))); clauses = refl }
-
-pub no_element_has_no_level : are_level_heads no_element ≡ false
-no_element_has_no_level = refl
+-- no tokens spell it, and its text is refused at the bar
+pub no_element_is_no_fun : are_fun_clauses no_element ≡ false
+no_element_is_no_fun = refl
 
 pub no_element_is_refused : fun_answer for_calls (codes "fun([|X]) -> X end") ≡ codes "refused 2 token at 5"
 unfolding is_written_bare digits

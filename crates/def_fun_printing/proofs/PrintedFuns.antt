@@ -7,7 +7,7 @@ use Rattle.def_text.specs.Spelling.{LENGTH}
 use Rattle.def_spec.specs.Expressions.{Dialect, Position, in_condition, in_body}
 use Rattle.def_fun.specs.Tokens.{FunSpan}
 use Rattle.def_fun.specs.Trees.{FunExpr, FunClause, first_byte}
-use Rattle.def_fun.specs.Grammar.{has_level, are_exprs, are_guards, is_fun_head, are_fun_clauses, DerivesFun}
+use Rattle.def_fun.specs.Grammar.{has_level, are_exprs, are_guards, is_fun_head, is_level_head, are_fun_clauses, DerivesFun}
 use Rattle.def_fun.specs.Reading.{read_fun, FunFault}
 use Rattle.def_fun.specs.Scan.{fun_spans}
 use Rattle.def_fun.specs.Limits.{FUN_DEPTH}
@@ -131,8 +131,8 @@ module _ (d : Dialect) where
   fun_clauses_printed : (ks : List FunClause) (ts us : List Tree) → EachClause ks → EachPrinted ts → with_fun_clauses d ts ks ≡ Ok us → EachPrinted us
   fun_clauses_printed [] ts us l each h = subst EachPrinted (same_ok ts us h) each
   fun_clauses_printed (k ∷ ks) ts us l each h =
-      let p = and_parts (is_fun_head k.head) (are_guards k.guards && are_exprs k.body) l.0 in
-      let q = and_parts (are_guards k.guards) (are_exprs k.body) p.1 in
+      let p = and_parts (is_fun_head k.head) (is_level_head k.head && (are_guards k.guards && are_exprs k.body)) l.0 in
+      let q = and_parts (are_guards k.guards) (are_exprs k.body) (and_parts (is_level_head k.head) (are_guards k.guards && are_exprs k.body) p.1).1 in
       let a = then_ok (with_alternatives d k ts (alternatives_of k.guards)) (λ vs. with_fun_clauses d vs ks) us h in
       fun_clauses_printed ks a.0 us l.1 (alternatives_printed k (alternatives_of k.guards) ts a.0 (rows_level k.guards q.0) q.1 each a.1) a.2
 

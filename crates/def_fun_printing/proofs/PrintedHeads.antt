@@ -18,6 +18,7 @@ use Rattle.def_fun.specs.Refusals.{FunRefusal, too_large_at, too_deep_at, head_a
 use Rattle.def_fun.specs.Variables.{ClauseNames, ANY, dollar_name, name_of_variable, name_of_whole, matched_part, names_of, variables_in, variables_in_each, is_of_whole, with_name, with_names, number_among, the_whole, anything_there, kind_of_number, variable_kind}
 use Rattle.def_fun.specs.Translation.{VARIABLES, variable_term, is_proper_tail, elements_of_list, onto_tail, are_digits, is_signed, is_variable_atom, pattern_term, pattern_terms, HEAD_DEPTH, within_depth, is_same_name, name_or_none, head_term}
 use Rattle.def_fun.specs.FunTexts.{OrReason, no_head_atom, then_print, numbered_variable, integer_expr, is_character_code, are_character_codes, is_text, string_expr, PrintedPattern, PrintedPatterns, pattern_atom, pattern_of_term, patterns_of_terms, head_of_term}
+use Rattle.def_fun.proofs.NamesGrow.{names_after, names_grow}
 use Rattle.def_fun.proofs.NumberedNames.{equal_names, same_name, other_name}
 use Rattle.def_fun.proofs.Translations.{then_ok}
 use Rattle.def_fun_printing.proofs.NumberAtoms.{number_kind, digits_same}
@@ -32,24 +33,7 @@ pub record ArePatterns (g n : ℕ) (ts : Trees) : Type 0 where
   pub exprs : FunExprs
   pub are : patterns_of_terms g ts ≡ Ok (exprs, n)
 
--- ---- results
-
 -- ---- numbers of names
-
-pub names_after : (w : Option Name) (ns ss us : List Name) → with_names w ns (ss ++ us) ≡ with_names w (with_names w ns ss) us
-names_after w ns [] us = refl
-names_after w ns (s ∷ ss) us = names_after w (with_name w ns s) ss us
-
-grown_by : (b : Bool) (ns : List Name) (s : Name) → (more : List Name) × (cond b ns (ns ++ s ∷ []) ≡ ns ++ more)
-grown_by true ns s = ([], sym (append-nil ns))
-grown_by false ns s = (s ∷ [], refl)
-
-names_grow : (w : Option Name) (ns ss : List Name) → (more : List Name) × (with_names w ns ss ≡ ns ++ more)
-names_grow w ns [] = ([], sym (append-nil ns))
-names_grow w ns (s ∷ ss) =
-    let one = grown_by (is_of_whole w s || (bytes_eq s ANY || is_among ns s)) ns s in
-    let rest = names_grow w (with_name w ns s) ss in
-    (one.0 ++ rest.0, rest.1 ∙ ap (λ l. l ++ rest.0) one.1 ∙ append_assoc ns one.0 rest.0)
 
 -- the number of a name that is among some, and there are more after it
 record IsAmongFirst (k : ℕ) (ns more : List Name) (s : Name) : Type 0 where

@@ -17,18 +17,16 @@ use Rattle.def_fun.specs.Reading.{read_fun}
 use Rattle.def_fun.specs.Translation.{tree_of_fun}
 use Rattle.def_fun.specs.Answers.{spec_of_text}
 use Rattle.def_fun.specs.FunTexts.{fun_printed}
-use Rattle.def_fun_printing.specs.HeadLevels.{are_level_heads}
 
 -- ---- reading
 
 -- a fun that the tokens spell within the limits is read
 abbrev pub DerivedFunIsRead : Type 0
-DerivedFunIsRead = (limit : ℕ) (xs : List FunSpan) (ks : List FunClause) → DerivesFun xs ks → are_level_heads ks ≡ true → FunFits limit true ks → read_fun limit true xs ≡ Ok ks
+DerivedFunIsRead = (limit : ℕ) (xs : List FunSpan) (ks : List FunClause) → DerivesFun xs ks → FunFits limit true ks → read_fun limit true xs ≡ Ok ks
 
 -- so within the limits they spell one at most
 abbrev pub DerivedFunIsOne : Type 0
-DerivedFunIsOne =
-    (limit : ℕ) (xs : List FunSpan) (ks ls : List FunClause) → DerivesFun xs ks → are_level_heads ks ≡ true → FunFits limit true ks → DerivesFun xs ls → are_level_heads ls ≡ true → FunFits limit true ls → ks ≡ ls
+DerivedFunIsOne = (limit : ℕ) (xs : List FunSpan) (ks ls : List FunClause) → DerivesFun xs ks → FunFits limit true ks → DerivesFun xs ls → FunFits limit true ls → ks ≡ ls
 
 -- ---- translation
 

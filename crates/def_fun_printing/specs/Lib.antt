@@ -1,2 +1,1 @@
-pub mod HeadLevels
 pub mod Laws

@@ -2,8 +2,7 @@
 ghost use Rattle.def_fun_printing.specs.Laws.{DerivedFunIsRead, DerivedFunIsOne, FunIsASpecification};
 ghost use Rattle.def_fun_printing.specs.Laws.{FunIsPrinted, TextIsPrinted, PrintedIsAFun, TextsAreShort};
 
-/// A fun that tokens spell within the limits is read, and they spell one at most, where each list with a tail in a
-/// head has an element before it.
+/// A fun that tokens spell within the limits is read, and they spell one at most.
 pub fn a_fun_that_is_spelled_is_read()
     ensures read { DerivedFunIsRead }
     ensures one { DerivedFunIsOne }

@@ -1,9 +1,9 @@
 //! The laws of funs that are printed as texts, and read back: `fun --pretty`.
 //!
 //! Depends on `def_term`, `def_text`, `def_spec` and `def_fun`. Promises, as laws over the definitions: a fun that
-//! tokens spell within the limits is read, and they spell one at most, where each list with a tail in a head has an
-//! element before it; the term of a fun is a specification, which is printed; and the text that a specification
-//! within the limits is printed as has that specification again. There is no code.
+//! tokens spell within the limits is read, and they spell one at most; the term of a fun is a specification, which is
+//! printed; and the text that a specification within the limits is printed as has that specification again. There is
+//! no code.
 #![tactic(auto)]
 
 mod laws;

@@ -2,7 +2,7 @@
 use Rattle.std.proofs.Common.{◌≡◌, ℕ, List, [], ◌∷◌, Some, None, refl}
 use Rattle.def_term.specs.Tree.{Tree, pid, tuple, list, of_elements, none}
 use Rattle.def_term.specs.Names.{word}
-use Rattle.def_renaming.specs.Renaming.{with_pair, with_beginning_pairs, renamings, first_renaming}
+use Rattle.def_renaming.specs.Renaming.{with_pair, with_prefix_pairs, renamings, first_renaming}
 
 -- {trace,From,send,hello,To}
 abbrev sends : ℕ → ℕ → Tree
@@ -36,26 +36,26 @@ same_number = refl
 -- ---- one group
 
 -- the run may go on
-longer_run : with_beginning_pairs [] (sends 84 85 ∷ []) (sends 100 101 ∷ exits 100 ∷ []) ≡ Some ((84, 100) ∷ (85, 101) ∷ [])
+longer_run : with_prefix_pairs [] (sends 84 85 ∷ []) (sends 100 101 ∷ exits 100 ∷ []) ≡ Some ((84, 100) ∷ (85, 101) ∷ [])
 longer_run = refl
 
 -- the trace may not
-shorter_run : with_beginning_pairs [] (sends 84 85 ∷ exits 84 ∷ []) (sends 100 101 ∷ []) ≡ None
+shorter_run : with_prefix_pairs [] (sends 84 85 ∷ exits 84 ∷ []) (sends 100 101 ∷ []) ≡ None
 shorter_run = refl
 
 -- 84 sends to 85, and 85 exits: not 100
-another_process : with_beginning_pairs [] (sends 84 85 ∷ exits 85 ∷ []) (sends 100 101 ∷ exits 100 ∷ []) ≡ None
+another_process : with_prefix_pairs [] (sends 84 85 ∷ exits 85 ∷ []) (sends 100 101 ∷ exits 100 ∷ []) ≡ None
 another_process = refl
 
 -- a process that sends to itself isn't one that sends to another
-to_itself : with_beginning_pairs [] (sends 84 84 ∷ []) (sends 100 101 ∷ []) ≡ None
+to_itself : with_prefix_pairs [] (sends 84 84 ∷ []) (sends 100 101 ∷ []) ≡ None
 to_itself = refl
 
-to_another : with_beginning_pairs [] (sends 84 85 ∷ []) (sends 100 100 ∷ []) ≡ None
+to_another : with_prefix_pairs [] (sends 84 85 ∷ []) (sends 100 100 ∷ []) ≡ None
 to_another = refl
 
 -- a tuple is no list
-another_kind : with_beginning_pairs [] (tuple none ∷ []) (list none ∷ []) ≡ None
+another_kind : with_prefix_pairs [] (tuple none ∷ []) (list none ∷ []) ≡ None
 another_kind = refl
 
 -- ---- groups

@@ -6,8 +6,8 @@ use Rattle.std.proofs.lemmas.Bool.Decides.{Decides-int_eq}
 use Rattle.std.proofs.lemmas.Option.{cond_some}
 use Rattle.std.proofs.lemmas.Slice.Eq.{bytes_eq-Decides}
 use Rattle.def_term.specs.Tree.{Tree, int, atom, pid, tuple, list, Trees, none, more}
-use Rattle.def_renaming.specs.Renaming.{IsOneToOne, IsRenamed, AreRenamed, IsRenamedBeginning, with_term_pairs, with_element_pairs, with_beginning_pairs}
-use Rattle.def_renaming.specs.Laws.{HasPairsOf, PairsOfABeginningAreSound, PairsOfABeginningAreLeast}
+use Rattle.def_renaming.specs.Renaming.{IsOneToOne, IsRenamed, AreRenamed, IsRenamedPrefix, with_term_pairs, with_element_pairs, with_prefix_pairs}
+use Rattle.def_renaming.specs.Laws.{HasPairsOf, PairsOfAPrefixAreSound, PairsOfAPrefixAreLeast}
 use Rattle.def_renaming.proofs.Lists.{both_some}
 use Rattle.def_renaming.proofs.Pairs.{has_itself, has_both, joined_sound, joined_least}
 
@@ -27,10 +27,10 @@ mutual
   all_renamed_more qs ps has (more t ts) (more u us) h = (renamed_more qs ps has t u h.0, all_renamed_more qs ps has ts us h.1)
   all_renamed_more qs ps has ts us h = absurd h
 
-pub beginning_more : (qs ps : List (ℕ × ℕ)) → HasPairsOf qs ps → (ts us : List Tree) → IsRenamedBeginning ps ts us → IsRenamedBeginning qs ts us
-beginning_more qs ps has [] us h = tt
-beginning_more qs ps has (t ∷ ts) [] h = absurd h
-beginning_more qs ps has (t ∷ ts) (u ∷ us) h = (renamed_more qs ps has t u h.0, beginning_more qs ps has ts us h.1)
+pub prefix_more : (qs ps : List (ℕ × ℕ)) → HasPairsOf qs ps → (ts us : List Tree) → IsRenamedPrefix ps ts us → IsRenamedPrefix qs ts us
+prefix_more qs ps has [] us h = tt
+prefix_more qs ps has (t ∷ ts) [] h = absurd h
+prefix_more qs ps has (t ∷ ts) (u ∷ us) h = (renamed_more qs ps has t u h.0, prefix_more qs ps has ts us h.1)
 
 -- ---- what is given does it
 
@@ -68,14 +68,14 @@ mutual
       then_given ps two.0 qs (IsRenamed two.0 t u) (AreRenamed qs ts us) (IsRenamed qs t u) (λ has h. renamed_more qs two.0 has t u h) (matched_sound ps two.0 t u two.1) (all_matched_sound two.0 qs ts us two.2)
   all_matched_sound ps qs ts us e = cc
 
-pub begun_given : (ps qs : List (ℕ × ℕ)) (ts us : List Tree) → with_beginning_pairs ps ts us ≡ Some qs → IsGiven ps qs (IsRenamedBeginning qs ts us)
+pub begun_given : (ps qs : List (ℕ × ℕ)) (ts us : List Tree) → with_prefix_pairs ps ts us ≡ Some qs → IsGiven ps qs (IsRenamedPrefix qs ts us)
 begun_given ps qs [] us e = let same : ps ≡ qs = cc in subst (λ xs. IsGiven ps xs (Unit {0})) same (record { one = λ one. one; has = has_itself ps; so = tt })
 begun_given ps qs (t ∷ ts) [] e = cc
 begun_given ps qs (t ∷ ts) (u ∷ us) e =
-    let two = both_some (λ xs. with_beginning_pairs xs ts us) (with_term_pairs ps t u) qs e in
-    then_given ps two.0 qs (IsRenamed two.0 t u) (IsRenamedBeginning qs ts us) (IsRenamed qs t u) (λ has h. renamed_more qs two.0 has t u h) (matched_sound ps two.0 t u two.1) (begun_given two.0 qs ts us two.2)
+    let two = both_some (λ xs. with_prefix_pairs xs ts us) (with_term_pairs ps t u) qs e in
+    then_given ps two.0 qs (IsRenamed two.0 t u) (IsRenamedPrefix qs ts us) (IsRenamed qs t u) (λ has h. renamed_more qs two.0 has t u h) (matched_sound ps two.0 t u two.1) (begun_given two.0 qs ts us two.2)
 
-pub begun_sound : PairsOfABeginningAreSound
+pub begun_sound : PairsOfAPrefixAreSound
 begun_sound ps qs there here one e = let given = begun_given ps qs there here e in (given.one one, given.has, given.so)
 
 -- ---- it is the least
@@ -108,12 +108,12 @@ mutual
       then_least rs (λ xs. with_element_pairs xs ts us) (with_term_pairs ps t u) first (all_matched_least first.pairs rs ts us one first.has h.1)
   all_matched_least ps rs ts us one has h = absurd h
 
-pub begun_given_least : (ps rs : List (ℕ × ℕ)) (ts us : List Tree) → IsOneToOne rs → HasPairsOf rs ps → IsRenamedBeginning rs ts us → IsLeast rs (with_beginning_pairs ps ts us)
+pub begun_given_least : (ps rs : List (ℕ × ℕ)) (ts us : List Tree) → IsOneToOne rs → HasPairsOf rs ps → IsRenamedPrefix rs ts us → IsLeast rs (with_prefix_pairs ps ts us)
 begun_given_least ps rs [] us one has h = record { pairs = ps; is = refl; has = has }
 begun_given_least ps rs (t ∷ ts) [] one has h = absurd h
 begun_given_least ps rs (t ∷ ts) (u ∷ us) one has h =
     let first = matched_least ps rs t u one has h.0 in
-    then_least rs (λ xs. with_beginning_pairs xs ts us) (with_term_pairs ps t u) first (begun_given_least first.pairs rs ts us one first.has h.1)
+    then_least rs (λ xs. with_prefix_pairs xs ts us) (with_term_pairs ps t u) first (begun_given_least first.pairs rs ts us one first.has h.1)
 
-pub begun_least : PairsOfABeginningAreLeast
+pub begun_least : PairsOfAPrefixAreLeast
 begun_least ps rs there here one has h = let least = begun_given_least ps rs there here one has h in (least.pairs, least.is, least.has)

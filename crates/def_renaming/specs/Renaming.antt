@@ -30,14 +30,14 @@ abbrev mutual
   AreRenamed ps _ _ = ⊥
 
 -- each message of the trace is so with the one at its place in the run, which may have more
-abbrev pub IsRenamedBeginning : List (ℕ × ℕ) → (there here : List Tree) → Type 0
-IsRenamedBeginning ps [] us = Unit {0}
-IsRenamedBeginning ps (t ∷ ts) [] = ⊥
-IsRenamedBeginning ps (t ∷ ts) (u ∷ us) = IsRenamed ps t u × IsRenamedBeginning ps ts us
+abbrev pub IsRenamedPrefix : List (ℕ × ℕ) → (there here : List Tree) → Type 0
+IsRenamedPrefix ps [] us = Unit {0}
+IsRenamedPrefix ps (t ∷ ts) [] = ⊥
+IsRenamedPrefix ps (t ∷ ts) (u ∷ us) = IsRenamed ps t u × IsRenamedPrefix ps ts us
 
 -- each group of messages of the trace is so with one of the lists that the run shows, by the same pairs
-abbrev pub HaveRenamedBeginnings : List (ℕ × ℕ) → (groups lists : List (List Tree)) → Type 0
-HaveRenamedBeginnings ps groups lists = All (λ group. Any (IsRenamedBeginning ps group) lists) groups
+abbrev pub HaveRenamedPrefixes : List (ℕ × ℕ) → (groups lists : List (List Tree)) → Type 0
+HaveRenamedPrefixes ps groups lists = All (λ group. Any (IsRenamedPrefix ps group) lists) groups
 
 -- ---- computed
 
@@ -75,20 +75,20 @@ abbrev mutual
   with_element_pairs ps _ _ = None
 
 -- the pairs with those that the messages of a group need where they are the first ones of a list
-abbrev pub with_beginning_pairs : List (ℕ × ℕ) → (there here : List Tree) → Option (List (ℕ × ℕ))
-with_beginning_pairs ps [] us = Some ps
-with_beginning_pairs ps (t ∷ ts) [] = None
-with_beginning_pairs ps (t ∷ ts) (u ∷ us) = option_and_then (λ qs. with_beginning_pairs qs ts us) (with_term_pairs ps t u)
+abbrev pub with_prefix_pairs : List (ℕ × ℕ) → (there here : List Tree) → Option (List (ℕ × ℕ))
+with_prefix_pairs ps [] us = Some ps
+with_prefix_pairs ps (t ∷ ts) [] = None
+with_prefix_pairs ps (t ∷ ts) (u ∷ us) = option_and_then (λ qs. with_prefix_pairs qs ts us) (with_term_pairs ps t u)
 
 -- the pairs with those that a group needs, for each list whose first messages it can be
 abbrev pub renamings_of : List Tree → (lists : List (List Tree)) → List (ℕ × ℕ) → List (List (ℕ × ℕ))
-renamings_of group lists ps = flat_map (λ us. option_to_list (with_beginning_pairs ps group us)) lists
+renamings_of group lists ps = flat_map (λ us. option_to_list (with_prefix_pairs ps group us)) lists
 
 -- the same for group after group
 abbrev pub renamings : (groups lists : List (List Tree)) → List (List (ℕ × ℕ)) → List (List (ℕ × ℕ))
 renamings [] lists pss = pss
 renamings (group ∷ groups) lists pss = renamings groups lists (flat_map (renamings_of group lists) pss)
 
--- the first pairs by which each group is the beginning of a list, if there are some
+-- the first pairs by which each group is a prefix of a list, if there are some
 abbrev pub first_renaming : (groups lists : List (List Tree)) → Option (List (ℕ × ℕ))
 first_renaming groups lists = slice_get (renamings groups lists ([] ∷ [])) 0

@@ -7,4 +7,4 @@
 
 mod laws;
 
-pub use laws::{a_renaming_is_found, pairs_of_a_beginning_are_least};
+pub use laws::{a_renaming_is_found, pairs_of_a_prefix_are_least};

@@ -3,14 +3,17 @@
 use Rattle.std.specs.Prelude.{Bool, true, false, ◌&&◌, ◌||◌, if◌then◌else◌}
 use Rattle.def_term.specs.Tree.{Tree, int, atom, pid, tuple, list, Trees, none, more}
 
+-- the term is an atom
 abbrev pub is_atom : Tree → Bool
 is_atom (atom s) = true
 is_atom t = false
 
+-- the term is an integer
 abbrev pub is_int : Tree → Bool
 is_int (int n) = true
 is_int t = false
 
+-- the term is a list
 abbrev pub is_list : Tree → Bool
 is_list (list ts) = true
 is_list t = false

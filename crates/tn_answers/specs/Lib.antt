@@ -1,2 +1,3 @@
 pub mod AnswerViews
+pub mod RowViews
 pub mod SearchAnswers

@@ -111,7 +111,7 @@ fn put_difference<A: Allocator + Copy, P: Allocator, B: Allocator>(
 }
 
 /// Whether all states were tried, so that no run shows the trace.
-fn no_match_word(whole: bool) -> &'static str
+pub(crate) fn no_match_word(whole: bool) -> &'static str
     ensures { result.now ≡ no_match_word whole }
 {
     if whole { "impossible" } else { "unknown" }

@@ -7,6 +7,7 @@ ghost use Rattle.tn_explore.specs.Searches.{answer_entries};
 ghost use Rattle.tn_messages.specs.MessageViews.{kept_seen};
 ghost use Rattle.tn_answers.specs.AnswerViews.{session_header, session_name_seen};
 ghost use Rattle.tn_answers.specs.SearchAnswers.{IsSearchAnswer, IsWordsAnswer, search_question_seen};
+ghost use Rattle.def_compare.specs.AnswerRows.{plain_answer};
 ghost use Rattle.tn_comparison.specs.Matches.{trace_question_seen};
 ghost use Rattle.tn_message_pattern.specs.Questions.{pattern_question_seen};
 
@@ -145,7 +146,7 @@ fn patterns_answer<A: Allocator + Copy, P: Allocator>(
     exploration: &Exploration<A, KeptListings<A>>,
 ) -> Result<SearchAnswer<A>, AllocError>
     ensures { let asked = about_patterns (map pattern_question_seen questions.now) in
-        IfOk result (IsSearchAnswer sessions.now asked exploration.now) }
+        IfOk result (IsSearchAnswer plain_answer sessions.now asked exploration.now) }
 {
     if questions.is_empty() {
         return Ok(SearchAnswer {
@@ -165,7 +166,7 @@ fn trace_answer<A: Allocator + Copy, P: Allocator>(
     exploration: &Exploration<A, KeptListings<A>>,
 ) -> Result<SearchAnswer<A>, AllocError>
     ensures { let asked = about_trace (trace_question_seen question.now) in
-        IfOk result (IsSearchAnswer sessions.now asked exploration.now) }
+        IfOk result (IsSearchAnswer plain_answer sessions.now asked exploration.now) }
 {
     let mut text = Vec::new(alloc);
     put_headers(sessions, &mut text)?;
@@ -178,19 +179,15 @@ fn trace_answer<A: Allocator + Copy, P: Allocator>(
     })
 }
 
-/// What an exploration of these sessions answers: its listings, the words for patterns where there are any, or whether
-/// a trace is possible.
-///
-/// # Errors
-///
-/// AllocError where memory was refused.
-pub fn search_answer<A: Allocator + Copy, P: Allocator>(
+/// What an exploration of these sessions answers, as lines for a reader.
+pub(crate) fn plain_answer<A: Allocator + Copy, P: Allocator>(
     alloc: A,
     sessions: &[SessionName<A>],
     question: &SearchQuestion<'_, P>,
     exploration: &Exploration<A, KeptListings<A>>,
 ) -> Result<SearchAnswer<A>, AllocError>
-    ensures { IfOk result (IsSearchAnswer sessions.now (search_question_seen question.now) exploration.now) }
+    ensures { IfOk result
+        (IsSearchAnswer plain_answer sessions.now (search_question_seen question.now) exploration.now) }
 {
     match question {
         SearchQuestion::Patterns(questions) => patterns_answer(

@@ -20,7 +20,7 @@ use tn_messages::KeptListings;
 use tn_text::write_term;
 
 /// The journal of the first entry that shows a match, or of the first that shows none.
-fn first_journal<'a, A: Allocator, P: Allocator>(
+pub(crate) fn first_journal<'a, A: Allocator, P: Allocator>(
     arena: &Bump<A>,
     pattern: &MessagePattern<P>,
     answers: &'a Answers<A, KeptListings<A>>,
@@ -41,7 +41,7 @@ fn first_journal<'a, A: Allocator, P: Allocator>(
 }
 
 /// The word, by whether there is a journal that shows a match and one that shows none.
-fn word_of(shown: Option<&[u32]>, missed: Option<&[u32]>, whole: bool) -> &'static str
+pub(crate) fn word_of(shown: Option<&[u32]>, missed: Option<&[u32]>, whole: bool) -> &'static str
     ensures { let s = option_map (λ v. v.now) shown.entry in let m = option_map (λ v. v.now) missed.entry in
         result.now ≡ word_text (word_by s m whole) }
 {
@@ -54,7 +54,12 @@ fn word_of(shown: Option<&[u32]>, missed: Option<&[u32]>, whole: bool) -> &'stat
 }
 
 /// Whether these journals refute what is demanded.
-fn is_refuted(demand: Demand, shown: Option<&[u32]>, missed: Option<&[u32]>, whole: bool) -> bool
+pub(crate) fn is_refuted(
+    demand: Demand,
+    shown: Option<&[u32]>,
+    missed: Option<&[u32]>,
+    whole: bool,
+) -> bool
     ensures { let s = option_map (λ v. v.now) shown.entry in let m = option_map (λ v. v.now) missed.entry in
         result ≡ is_refuted (demand_seen demand) s m whole }
 {
@@ -148,7 +153,7 @@ fn put_pattern<A: Allocator + Copy, P: Allocator, B: Allocator>(
 }
 
 /// Whether one is so.
-fn either(one: bool, other: bool) -> bool
+pub(crate) fn either(one: bool, other: bool) -> bool
     ensures { result ≡ (one || other) }
 {
     one || other

@@ -8,6 +8,8 @@ use Rattle.std.specs.Str.Parse.{digits_value}
 use Rattle.std.specs.Str.{bytes_eq}
 use Rattle.std.specs.Borrow.{Bor}
 use Rattle.clap.specs.declared.parser.matches.ArgMatches.{ArgMatches}
+use Rattle.tn_answers.specs.declared.form.AnswerForm.{AnswerForm}
+use Rattle.tn_answers.specs.declared.form.AnswerForm.TheVariants as forms
 use Rattle.clap.specs.Words.{found_of, first_value, matched_of, raw_values, rows_of, subcommand_name_of, subcommand_rows_of}
 use Rattle.tn_explain.specs.declared.filter.Filter.{Filter}
 use Rattle.tn_command.specs.declared.source.Source.{Source}
@@ -178,7 +180,12 @@ first_moves m = if takes_control_first m then codes "0!" else unwrap_or (argumen
 abbrev pub order_named : List ℕ → ListingOrder
 order_named order = if bytes_eq order (codes "total") then Total else ByProcess
 
--- the script, the first moves, what `--order` and `--session` name, the patterns, and the number of `--max-states`
+-- the form of an answer, by whether `--json` is given
+abbrev pub form_given : Bool → AnswerForm
+form_given true = forms.Json
+form_given false = forms.Plain
+
+-- the script, the first moves, what `--order` and `--session` name, the patterns, the number of `--max-states`, and the form
 abbrev pub IsExplorationOf : ArgMatches → ExploreArgs → Type 0
 IsExplorationOf m x =
     IsSourceNamed (argument m (codes "script")) x.script
@@ -191,6 +198,7 @@ IsExplorationOf m x =
     × (words_of x.sometimes.now ≡ texts_given m (codes "sometimes"))
     × (x.trace ≡ None)
     × IsGiven 1 4294967295 (argument m (codes "max-states")) x.max_states
+    × (x.form ≡ form_given (is_given m (codes "json")))
 
 -- it is about no pattern
 pub record IsAboutNoPattern (x : ExploreArgs) : Type 0 where
@@ -199,7 +207,7 @@ pub record IsAboutNoPattern (x : ExploreArgs) : Type 0 where
   pub never : x.never.now ≡ []
   pub sometimes : x.sometimes.now ≡ []
 
--- the script, the first moves, what `--order` and `--session` name, the file of `--trace`, whether `--prefix` is given, and the number of `--max-states`
+-- the script, the first moves, what `--order` and `--session` name, the file of `--trace`, whether `--prefix` is given, the number of `--max-states`, and the form
 abbrev pub IsComparisonOf : ArgMatches → ExploreArgs → Type 0
 IsComparisonOf m x =
     IsSourceNamed (argument m (codes "script")) x.script
@@ -210,6 +218,7 @@ IsComparisonOf m x =
     × IsTextOf (argument m (codes "trace")) x.trace
     × (x.goes_on ≡ is_given m (codes "prefix"))
     × IsGiven 1 4294967295 (argument m (codes "max-states")) x.max_states
+    × (x.form ≡ form_given (is_given m (codes "json")))
 
 -- a source that is given is the one that the text names
 abbrev pub IsSourceOrNone : Option (List ℕ) → Option Source → Type 0

@@ -4,12 +4,13 @@ ghost use Rattle.tn_cli.specs.Requests.{argument, is_given, picture_format_named
 ghost use Rattle.tn_cli.specs.Requests.{number_given, IsNumberOrNone};
 ghost use Rattle.tn_cli.specs.Requests.{NamesProcess, NamesNoProcess, ArePicksOf, IsSourceNamed, Asks, IsAskedBy};
 ghost use Rattle.tn_cli.specs.Requests.{LacksLimit, LacksNumber, IsWithoutNumber, NamesNoCommand};
-ghost use Rattle.tn_cli.specs.Requests.{IsRunOf, takes_control_first, first_moves, order_named};
+ghost use Rattle.tn_cli.specs.Requests.{IsRunOf, takes_control_first, first_moves, form_given, order_named};
 ghost use Rattle.tn_expectation.specs.Expectations.{words_of};
 ghost use Rattle.tn_cli.specs.Requests.{IsExpectationOf, IsListingOf, IsSourceOrNone, texts_given};
 
 use crate::value::{process_number, session_name};
 use clap::ArgMatches;
+use tn_answers::AnswerForm;
 use tn_command::{BadValue, Source, plain_number, source_of};
 use tn_explain::Filter;
 use tn_picture::PictureFormat;
@@ -343,6 +344,17 @@ fn listing_order(order: &str) -> ListingOrder
     }
 }
 
+/// The form of an answer: JSON where `--json` is given.
+fn answer_form<'a>(matches: &ArgMatches<'a>) -> AnswerForm
+    ensures { result ≡ form_given (is_given matches.now (codes "json")) }
+{
+    if flag(matches, "json") {
+        AnswerForm::Json
+    } else {
+        AnswerForm::Plain
+    }
+}
+
 /// What `explore` asks for.
 fn exploration<'s, 'a: 's>(matches: &'s ArgMatches<'a>) -> Result<Request<'s>, BadValue<'s>>
     ensures asks { IfOk result (Asks (codes "explore") matches.now) }
@@ -361,6 +373,7 @@ fn exploration<'s, 'a: 's>(matches: &'s ArgMatches<'a>) -> Result<Request<'s>, B
         trace: None,
         goes_on: false,
         max_states,
+        form: answer_form(matches),
     }))
 }
 
@@ -382,6 +395,7 @@ fn comparison<'s, 'a: 's>(matches: &'s ArgMatches<'a>) -> Result<Request<'s>, Ba
         trace: matches.get_str("trace"),
         goes_on: flag(matches, "prefix"),
         max_states,
+        form: answer_form(matches),
     }))
 }
 

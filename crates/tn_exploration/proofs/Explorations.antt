@@ -2,36 +2,14 @@
 use Rattle.std.proofs.Common.{◌≡◌, ◌∙◌, ℕ, ◌+◌, ◌<◌, ◌≤◌, ◌&&◌, Bool, true, false, List, [], ◌∷◌, ◌++◌, length, map, take, get_or, refl, sym, ap, subst, append-nil, append_assoc, arith}
 use Rattle.std.proofs.lemmas.List.{take_more, take_all, map-append}
 use Rattle.std.specs.Prelude.{◌||◌}
-use Rattle.def_term.specs.Names.{Name}
 use Rattle.def_script.specs.Program.{Program}
-use Rattle.def_script.specs.Script.{creations}
 use Rattle.def_run.specs.Round.{is_empty}
-use Rattle.def_explore.specs.Answers.{RestEntry}
-use Rattle.tn_explore.specs.Searches.{Explores}
 use Rattle.tn_moves.specs.Schedules.{schedule_seen, AreMovesOf}
-use Rattle.tn_search.specs.Sessions.{elements_at}
-use Rattle.tn_search.specs.States.{query_of, is_by_process}
-use Rattle.def_compare.specs.Answers.{answer_text, admits_for, is_settled, is_unmet}
-use Rattle.tn_answers.specs.SearchAnswers.{search_question_seen}
 use Rattle.tn_exploration.specs.Requests.{IsSearchText, AreSearchTexts, AddsSearch, AddsSearches, groups_of, IsExplorationFrom, IsExploration}
 use Rattle.tn_exploration.specs.declared.request.ExploreRequest.{ExploreRequest}
 use Rattle.tn_exploration.specs.declared.request.ExploreOutcome.{ExploreOutcome}
 use Rattle.tn_exploration.specs.declared.request.ExploreOutcome.TheVariants.{Complete, Incomplete, Unmet, NoSession, Refused}
 use Rattle.tn_exploration.specs.declared.searches.SearchEnd.{SearchEnd}
-
--- the text of a search about the sessions at these places
-pub is_search_text : (q : ExploreRequest) (p : Program) (before places : List ℕ) (names : List (Name × Name)) (es : List RestEntry) (states : ℕ) (whole settled unmet : Bool) (text : List ℕ)
-    → names ≡ elements_at places (creations p.commands) → Explores (query_of (admits_for (search_question_seen q.question)) (is_by_process q.order) p before places) es q.max_states states whole → text ≡ answer_text names (search_question_seen q.question) es states whole
-    → settled ≡ is_settled (search_question_seen q.question) es whole → unmet ≡ is_unmet (search_question_seen q.question) es whole → IsSearchText q p before places text settled unmet
-is_search_text q p before places names es states whole settled unmet text named searches written settles demands = record {
-  entries = es;
-  states = states;
-  whole = whole;
-  search = searches;
-  written = written ∙ ap (λ ss. answer_text ss (search_question_seen q.question) es states whole) named;
-  settles = settles;
-  demands = demands;
-}
 
 pub no_places : (places : List ℕ) → length places ≡ 0 → is_empty places ≡ true
 no_places [] none = refl

@@ -1,3 +1,4 @@
 pub mod Places
 pub mod Explorations
 pub mod TextQuestions
+mod Runs

@@ -1,2 +1,3 @@
+pub mod Searches
 pub mod Requests
 pub mod Questions

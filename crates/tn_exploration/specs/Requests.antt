@@ -6,16 +6,14 @@ use Rattle.def_term.specs.Names.{Name}
 use Rattle.def_script.specs.Program.{Program}
 use Rattle.def_script.specs.Script.{Refusal, creations}
 use Rattle.def_run.specs.Round.{is_empty}
-use Rattle.def_explore.specs.Answers.{RestEntry}
-use Rattle.def_compare.specs.Answers.{answer_text, admits_for, is_unmet, is_settled}
-use Rattle.tn_answers.specs.SearchAnswers.{search_question_seen}
-use Rattle.tn_explore.specs.Searches.{Explores}
+use Rattle.tn_answers.specs.SearchAnswers.{form_seen, search_question_seen}
 use Rattle.tn_moves.specs.Schedules.{schedule_seen, AreMovesOf, HasPicks}
 use Rattle.tn_run.specs.Answers.{IsRefusedRun, text_refusal}
 use Rattle.tn_run.specs.Jobs.{JobView, failed_end}
 use Rattle.tn_run.specs.declared.fault.RunFault.{RunFault}
 use Rattle.tn_search.specs.Sessions.{elements_at}
-use Rattle.tn_search.specs.States.{query_of, is_by_process}
+use Rattle.tn_search.specs.States.{is_by_process}
+use Rattle.tn_exploration.specs.Searches.{SearchText, IsAnswerText}
 use Rattle.tn_exploration.specs.declared.request.ExploreRequest.{ExploreRequest}
 use Rattle.tn_exploration.specs.declared.request.ExploreOutcome.{ExploreOutcome}
 use Rattle.tn_exploration.specs.declared.searches.SearchEnd.{SearchEnd}
@@ -48,21 +46,10 @@ places_of asked p = places_from asked 0 (creations p.commands)
 
 -- ---- what is written
 
--- the text is that of a search through all schedules that begin with a journal, about the sessions at these places; it says whether more states could change nothing, and whether a demand is refuted or the trace is impossible
-pub record IsSearchText (q : ExploreRequest) (p : Program) (before places text : List ℕ) (settled unmet : Bool) : Type 0 where
-  pub entries : List RestEntry
-  pub states : ℕ
-  pub whole : Bool
-  pub search : Explores (query_of (admits_for (search_question_seen q.question)) (is_by_process q.order) p before places) entries q.max_states states whole
-  pub written : text ≡ answer_text (elements_at places (creations p.commands)) (search_question_seen q.question) entries states whole
-  pub settles : settled ≡ is_settled (search_question_seen q.question) entries whole
-  pub demands : unmet ≡ is_unmet (search_question_seen q.question) entries whole
-
--- the text of a search, and how it ended
-pub record SearchText : Type 0 where
-  pub text : List ℕ
-  pub settled : Bool
-  pub unmet : Bool
+-- the text answers the question about the sessions at these places, by the schedules that begin with a journal; it says whether more states could change nothing, and whether a demand is refuted or the trace is impossible
+abbrev pub IsSearchText : ExploreRequest → Program → (before places text : List ℕ) → (settled unmet : Bool) → Type 0
+IsSearchText q p before places text settled unmet =
+    IsAnswerText (form_seen q.form) (elements_at places (creations p.commands)) (search_question_seen q.question) (is_by_process q.order) p before places q.max_states (record { text = text; settled = settled; unmet = unmet })
 
 -- the texts of searches, each about the sessions at some places, one after another, whether all of them are settled, and whether one is unmet
 abbrev pub AreSearchTexts : ExploreRequest → Program → List ℕ → List (List ℕ) → List ℕ → (settled unmet : Bool) → Type 0

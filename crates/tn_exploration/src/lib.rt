@@ -7,6 +7,7 @@
 //! spell, or says why one spells none.
 #![tactic(auto)]
 
+mod in_order;
 mod job;
 mod questions;
 mod request;

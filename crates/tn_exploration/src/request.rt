@@ -1,6 +1,6 @@
 // What is asked of all schedules of a program, and what was written.
 use std::alloc::Global;
-use tn_answers::SearchQuestion;
+use tn_answers::{AnswerForm, SearchQuestion};
 use tn_moves::Schedule;
 use tn_run::RunRefusal;
 use tn_search::ListingOrder;
@@ -18,6 +18,8 @@ pub struct ExploreRequest<'a> {
     pub question: SearchQuestion<'a, Global>,
     /// How many states may be met before it ends.
     pub max_states: usize,
+    /// The form of what is written.
+    pub form: AnswerForm,
 }
 
 /// What was written.

@@ -1,19 +1,23 @@
 // The texts of searches, one after another.
 ghost use Rattle.std.specs.Prelude.{◌≡◌, ◌&&◌, ◌||◌, ◌∷◌, [], IfOk, map};
+ghost use Rattle.std.specs.Option.{option_map};
 ghost use Rattle.tn_program.specs.Views.{program_of};
 ghost use Rattle.def_compare.specs.Answers.{admits_for};
-ghost use Rattle.tn_answers.specs.SearchAnswers.{search_question_seen};
-ghost use Rattle.tn_search.specs.States.{ExploresPlan};
+ghost use Rattle.tn_answers.specs.AnswerViews.{session_name_seen};
+ghost use Rattle.tn_answers.specs.SearchAnswers.{form_seen, search_question_seen};
+ghost use Rattle.tn_search.specs.States.{ExploresPlan, is_by_process};
 ghost use Rattle.tn_exploration.specs.Requests.{AddsSearch, AddsSearches, groups_of};
+ghost use Rattle.tn_exploration.specs.Searches.{IsAnswerText, IsTextBefore, search_text_seen, trace_by_process};
 
+use crate::in_order::answer_in_order;
 use crate::request::ExploreRequest;
 use crate::sessions::names_at;
 use std::alloc::{AllocError, Allocator, Global};
-use tn_answers::{SearchQuestion, search_answer};
+use tn_answers::{AnswerForm, SearchAnswer, SearchQuestion, SessionName, search_answer};
 use tn_explore::Exploration;
 use tn_messages::{AllRuns, KeptListings};
 use tn_program::Program;
-use tn_search::{SearchPlan, explore_program};
+use tn_search::{ListingOrder, SearchPlan, explore_program};
 
 /// How searches ended: whether more states could change no answer, and whether one refutes a demand or has no run for
 /// the trace.
@@ -39,6 +43,52 @@ fn explore_for<A: Allocator + Copy>(
     }
 }
 
+/// The answer of a run that shows the trace by its own order, where a trace is asked about by process; None where there
+/// is no such run.
+fn answer_before<A: Allocator + Copy>(
+    alloc: A,
+    program: &Program<A>,
+    names: &[SessionName<A>],
+    question: &SearchQuestion<'_, Global>,
+    plan: &SearchPlan<'_>,
+    form: AnswerForm,
+) -> Result<Option<SearchAnswer<A>>, AllocError>
+    ensures { let trace = trace_by_process (search_question_seen question.now) (is_by_process plan.now.order) in
+        let ss = map session_name_seen names.now in let p = program_of program.now in
+        IfOk result (λ o. IsTextBefore (form_seen form) ss p plan.now.before.now plan.now.places.now
+        plan.now.max_states trace (option_map search_text_seen o)) }
+{
+    match question {
+        SearchQuestion::Patterns(_) => Ok(None),
+        SearchQuestion::Trace(trace) => match plan.order {
+            ListingOrder::Total => Ok(None),
+            ListingOrder::ByProcess => { answer_in_order(alloc, program, names, trace, plan, form) }
+        },
+    }
+}
+
+/// What is answered about sessions of these names: by a run in the order of a trace, or else by a search through all
+/// schedules of the plan.
+fn answer_of<A: Allocator + Copy>(
+    alloc: A,
+    program: &Program<A>,
+    names: &[SessionName<A>],
+    question: &SearchQuestion<'_, Global>,
+    plan: &SearchPlan<'_>,
+    form: AnswerForm,
+) -> Result<SearchAnswer<A>, AllocError>
+    ensures { let q = search_question_seen question.now in let b = is_by_process plan.now.order in
+        let ss = map session_name_seen names.now in let p = program_of program.now in
+        IfOk result (λ a. IsAnswerText (form_seen form) ss q b p plan.now.before.now plan.now.places.now
+        plan.now.max_states (search_text_seen a)) }
+{
+    if let Some(answer) = answer_before(alloc, program, names, question, plan, form)? {
+        return Ok(answer);
+    }
+    let exploration = explore_for(alloc, program, question, plan)?;
+    search_answer(alloc, names, question, &exploration, form)
+}
+
 /// Appends the text of a search about the sessions at some places.
 fn put_search<A: Allocator + Copy>(
     alloc: A,
@@ -58,8 +108,14 @@ fn put_search<A: Allocator + Copy>(
         places,
         max_states: request.max_states,
     };
-    let exploration = explore_for(alloc, program, &request.question, &plan)?;
-    let answer = search_answer(alloc, &names, &request.question, &exploration)?;
+    let answer = answer_of(
+        alloc,
+        program,
+        &names,
+        &request.question,
+        &plan,
+        request.form,
+    )?;
     text.extend_from_slice(&answer.text)?;
     Ok(SearchEnd {
         is_settled: answer.is_settled,

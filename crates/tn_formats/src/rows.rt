@@ -15,13 +15,13 @@ use std::alloc::{AllocError, Allocator};
 
 /// Rows of JSON, each with its line feed, and the memory in which the next one is made.
 #[derive(Drop)]
-pub(crate) struct JsonText<A: Allocator> {
+pub struct JsonText<A: Allocator> {
     pub lines: Vec<u8, A>,
     pub row: Vec<u8, A>,
 }
 
 /// No rows.
-pub(crate) fn no_rows<A: Allocator + Copy>(alloc: A) -> JsonText<A>
+pub fn no_rows<A: Allocator + Copy>(alloc: A) -> JsonText<A>
     ensures { result.lines.items ≡ [] }
 {
     JsonText {
@@ -31,7 +31,11 @@ pub(crate) fn no_rows<A: Allocator + Copy>(alloc: A) -> JsonText<A>
 }
 
 /// Begins an object in the memory of the row before it.
-pub(crate) fn begin_row<A: Allocator>(row: Vec<u8, A>) -> Result<Writer<A>, AllocError>
+///
+/// # Errors
+///
+/// AllocError where memory was refused.
+pub fn begin_row<A: Allocator>(row: Vec<u8, A>) -> Result<Writer<A>, AllocError>
     ensures before { IfOk result (λ w. w.before ≡ []) }
     ensures tokens { IfOk result (λ w. w.tokens ≡ begin_object ∷ []) }
 {
@@ -43,7 +47,11 @@ pub(crate) fn begin_row<A: Allocator>(row: Vec<u8, A>) -> Result<Writer<A>, Allo
 }
 
 /// Ends the object, and appends it and a line feed to the rows before it.
-pub(crate) fn end_row<A: Allocator>(
+///
+/// # Errors
+///
+/// AllocError where memory was refused.
+pub fn end_row<A: Allocator>(
     lines: Vec<u8, A>,
     writer: Writer<A>,
 ) -> Result<JsonText<A>, AllocError>
@@ -61,7 +69,7 @@ pub(crate) fn end_row<A: Allocator>(
 
 /// A session, by the texts of its name and of its tracer.
 #[derive(Clone, Copy)]
-pub(crate) struct Names<'a> {
+pub struct Names<'a> {
     pub name: &'a [u8],
     pub tracer: &'a [u8],
 }
@@ -75,7 +83,11 @@ fn put_names<A: Allocator>(writer: &mut Writer<A>, names: Names<'_>) -> Result<(
 }
 
 /// Appends the row of a session with so many messages.
-pub(crate) fn put_session_row<A: Allocator>(
+///
+/// # Errors
+///
+/// AllocError where memory was refused.
+pub fn put_session_row<A: Allocator>(
     out: JsonText<A>,
     names: Names<'_>,
     count: usize,
@@ -105,8 +117,12 @@ fn put_message<A: Allocator>(
     put_text_member(writer, "text", line)
 }
 
-/// Appends the row of a message.
-pub(crate) fn put_message_row<A: Allocator>(
+/// Appends the row of a message, by its line in a listing.
+///
+/// # Errors
+///
+/// AllocError where memory was refused.
+pub fn put_message_row<A: Allocator>(
     out: JsonText<A>,
     names: Names<'_>,
     number: usize,

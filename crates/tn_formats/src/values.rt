@@ -1,9 +1,10 @@
 // Values of JSON, and members of an object.
-ghost use Rattle.std.specs.Prelude.{◌≡◌, ◌∷◌, [], MatchOption, false, true, if◌then◌else◌, decimal};
-ghost use Rattle.json.specs.Token.{number, string};
+ghost use Rattle.std.specs.Prelude.{◌≡◌, ◌∷◌, [], MatchOption, false, true, if◌then◌else◌, decimal, map};
+ghost use Rattle.json.specs.Json.{array};
+ghost use Rattle.json.specs.Token.{boolean, key, number, string};
 ghost use Rattle.json.specs.Word.{after_number};
 ghost use Rattle.json.specs.Tree.{json_tokens};
-ghost use Rattle.def_formats.specs.JsonRows.{are_ascii, is_whole, text_value, numeral_value};
+ghost use Rattle.def_formats.specs.JsonRows.{are_ascii, is_whole, items_from, number_value, numeral_value, text_value};
 ghost use Rattle.tn_formats.specs.Tokens.{AddsTokens, text_member, numeral_member, number_member};
 
 use json::{Writer, is_number};
@@ -66,8 +67,12 @@ pub(crate) fn put_numeral<A: Allocator>(
     }
 }
 
-/// Writes a member that is a text.
-pub(crate) fn put_text_member<A: Allocator>(
+/// Writes a member that is a text of ASCII: a string, or null where the text isn't one.
+///
+/// # Errors
+///
+/// AllocError where memory was refused.
+pub fn put_text_member<A: Allocator>(
     writer: &mut Writer<A>,
     name: &str,
     text: &[u8],
@@ -91,7 +96,11 @@ pub(crate) fn put_numeral_member<A: Allocator>(
 }
 
 /// Writes a member that is a number.
-pub(crate) fn put_number_member<A: Allocator>(
+///
+/// # Errors
+///
+/// AllocError where memory was refused.
+pub fn put_number_member<A: Allocator>(
     writer: &mut Writer<A>,
     name: &str,
     number: usize,
@@ -100,4 +109,36 @@ pub(crate) fn put_number_member<A: Allocator>(
 {
     writer.key(name)?;
     writer.u64(number as u64)
+}
+
+/// Writes a member that is true or false.
+///
+/// # Errors
+///
+/// AllocError where memory was refused.
+pub fn put_boolean_member<A: Allocator>(
+    writer: &mut Writer<A>,
+    name: &str,
+    value: bool,
+) -> Result<(), AllocError>
+    ensures { AddsTokens result writer.old writer.new (key name.now ∷ boolean value ∷ []) }
+{
+    writer.key(name)?;
+    writer.boolean(value)
+}
+
+/// Writes numbers as an array.
+///
+/// # Errors
+///
+/// AllocError where memory was refused.
+pub fn put_numbers<A: Allocator>(writer: &mut Writer<A>, numbers: &[u32]) -> Result<(), AllocError>
+    ensures { AddsTokens result writer.old writer.new
+        (json_tokens (array (items_from (map number_value numbers.now)))) }
+{
+    writer.begin_array()?;
+    for number in numbers {
+        writer.u64(*number as u64)?;
+    }
+    writer.end_array()
 }

@@ -3,7 +3,7 @@
 //! Depends on `def_fun` (tokens, grammar, limits, refusals), on `tn_term` and `tn_text`. Promises:
 //! `tokens` gives exactly the tokens of a text, with their places; `read_fun` answers the clauses of the
 //! fun that a text is, or its refusal with its place; `name_of` and `string_codes` give what a token of
-//! a text spells.
+//! a text spells; `first_byte` gives where an expression begins.
 #![tactic(auto)]
 
 mod body_step;
@@ -19,6 +19,7 @@ mod head_step;
 mod level;
 mod lexer;
 mod names;
+mod offset;
 mod operand;
 mod operator;
 mod part;
@@ -33,6 +34,7 @@ pub use clause::{Clause, Head};
 pub use fault::ReadFault;
 pub use lexer::tokens;
 pub use names::{name_of, string_codes, token_bytes};
+pub use offset::first_byte;
 pub use operator::Operator;
 pub use reader::read_fun;
 pub use token::{Kind, Token};

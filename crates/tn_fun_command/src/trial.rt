@@ -4,7 +4,6 @@ ghost use Rattle.std.specs.Process.{exit_status};
 ghost use Rattle.tn_command.specs.SpecTests.{MeetsSpecTestBy, spec_test_status_of};
 ghost use Rattle.tn_command.specs.Status.{IsStatus};
 ghost use Rattle.tn_fun_command.specs.FunTests.{IsFunOutput, fun_test_output};
-ghost use Rattle.tn_fun_words.specs.Views.{text_of_fun};
 ghost use Rattle.tn_verdict.specs.SpecTestInputs.{IsNoAnswer};
 
 use crate::command::print_fun;
@@ -53,7 +52,7 @@ fn fun_output<A: Allocator + Copy>(
     several: bool,
     format: Option<Format>,
 ) -> Result<Vec<u8, A>, SpecTestFault<A>>
-    ensures answer { IfOk result (λ v. IsFunOutput several format question.now (text_of_fun fun.now) v.items) }
+    ensures answer { IfOk result (λ v. IsFunOutput several format question.now fun.now.bytes.now v.items) }
     ensures fault { IfErr result (λ f. IsNoAnswer question.now f) }
 {
     let answer = answer_in_words(alloc, question, fun)?;
@@ -75,7 +74,7 @@ pub fn test_fun_over<A: Allocator + Copy, W: Write>(
 ) -> JobEnd<(), SpecTestRunFault<A>>
     ensures status { IsStatus (exit_status result.status) }
     ensures answer { exit_status result.status ≡ spec_test_status_of result.answer }
-    ensures done { MeetsSpecTestBy (IsFunOutput several format question.now (text_of_fun fun.now)) question.now
+    ensures done { MeetsSpecTestBy (IsFunOutput several format question.now fun.now.bytes.now) question.now
         W.contents writer.old writer.new result.answer }
 {
     let output = match fun_output(alloc, question, fun, several, format) {

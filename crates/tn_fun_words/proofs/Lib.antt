@@ -6,3 +6,4 @@ pub mod Fronts
 pub mod Reasons
 pub mod NoteLists
 pub mod FunAnswers
+pub mod NoRefusals

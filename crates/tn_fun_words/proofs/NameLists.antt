@@ -9,6 +9,7 @@ use Rattle.def_term.specs.Names.{Name}
 use Rattle.def_term.specs.Text.{is_among}
 use Rattle.def_fun.specs.Trees.{FunExpr, variable, whole, atom, strings, in_parens, call, list, list_onto, tuple, before, between, FunExprs, none, more}
 use Rattle.def_fun.specs.Variables.{variables_in, variables_in_each, name_of_variable, with_name, with_names}
+use Rattle.def_fun.proofs.NamesGrow.{names_after}
 use Rattle.def_fun_words.specs.Notes.{noted_parts_of, parts_of_each}
 use Rattle.def_fun_words.specs.WordTexts.{name_numbered}
 use Rattle.tn_fun.specs.Trees.{fun_expr_seen}
@@ -39,10 +40,6 @@ mutual
   of_each : (es : FunExprs) → names_in_parts (parts_of_each es) ≡ variables_in_each es
   of_each none = refl
   of_each (more e es) = joined (noted_parts_of e) (parts_of_each es) ∙ ap (λ l. l ++ names_in_parts (parts_of_each es)) (of_parts e) ∙ ap (λ l. variables_in e ++ l) (of_each es)
-
-names_after : (w : Option Name) (ns ss us : List Name) → with_names w ns (ss ++ us) ≡ with_names w (with_names w ns ss) us
-names_after w ns [] us = refl
-names_after w ns (s ∷ ss) us = names_after w (with_name w ns s) ss us
 
 module _ {A : Type 0} (text : List ℕ) (ps : List (Bor (Expr A))) (i : ℕ) where
   here : (p : Bor (Expr A)) → i < length ps → p ≡ get_or ps i p → names_in_parts (lent_exprs_seen text (drop i ps)) ≡ names_at (fun_expr_seen text p.now) ++ names_in_parts (lent_exprs_seen text (drop (i + 1) ps))

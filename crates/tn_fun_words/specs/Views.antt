@@ -27,10 +27,6 @@ name_list_seen vs = map (λ v. v.items) vs
 abbrev pub head_names_seen : {A : Type 0} → Names A → variables.ClauseNames
 head_names_seen n = record { of_whole = option_map (λ v. v.items) n.whole; numbers = name_list_seen n.numbers.items }
 
--- the conditions of a guard
-abbrev pub conditions_seen : {A : Type 0} → List ℕ → Bor (List (Expr A)) → List FunExpr
-conditions_seen text es = fun_row_seen text es.now
-
 -- the texts of the conditions
 abbrev pub condition_texts : {A : Type 0} → List ℕ → List (Expr A) → List (List ℕ)
 condition_texts text es = map (condition_text text) (fun_row_seen text es)
@@ -39,17 +35,9 @@ condition_texts text es = map (condition_text text) (fun_row_seen text es)
 abbrev pub clause_words_seen : {A : Type 0} → ClauseWords A → words.ClauseWords
 clause_words_seen w = guard_words w.fun.now.bytes.now (fun_clause_seen w.fun.now.bytes.now w.clause.now) (fun_row_seen w.fun.now.bytes.now w.conditions.now)
 
--- where there are some
-abbrev pub line_words_seen : {A : Type 0} → Option (ClauseWords A) → Option words.ClauseWords
-line_words_seen o = option_map clause_words_seen o
-
--- the text that is a fun
-abbrev pub text_of_fun : {A : Type 0} → FunWords A → List ℕ
-text_of_fun f = f.bytes.now
-
--- its words for the clauses of its specification
+-- the words of a fun for the clauses of its specification
 abbrev pub all_words_seen : {A : Type 0} → FunWords A → List words.ClauseWords
-all_words_seen f = words_of_fun (text_of_fun f) (fun_clauses_seen (text_of_fun f) f.clauses.items)
+all_words_seen f = words_of_fun f.bytes.now (fun_clauses_seen f.bytes.now f.clauses.items)
 
 -- where there is one
 abbrev pub fun_words_seen : {A : Type 0} → Option (Bor (FunWords A)) → List words.ClauseWords

@@ -6,9 +6,8 @@ ghost use Rattle.def_fun_words.specs.Words.{blank_between, condition_text};
 ghost use Rattle.tn_fun.specs.Tokens.{fun_token_seen, span_seen};
 ghost use Rattle.tn_fun.specs.Trees.{fun_expr_seen};
 
-use crate::first_byte::first_byte;
 use std::alloc::{AllocError, Allocator};
-use tn_fun::{Expr, Kind, Token, token_bytes};
+use tn_fun::{Expr, Kind, Token, first_byte, token_bytes};
 
 /// Whether it is a `,`, a `;` or `->`.
 fn is_separator(kind: Kind) -> bool

@@ -11,7 +11,8 @@ use tn_fun::{Clause, ReadFault, Token, read_fun, tokens};
 /// A text that is a fun, with its tokens and its clauses.
 #[derive(Drop)]
 pub struct FunWords<'a, A: Allocator> {
-    pub(crate) bytes: &'a [u8],
+    /// The text.
+    pub bytes: &'a [u8],
     pub(crate) tokens: Vec<Token, A>,
     pub(crate) clauses: Vec<Clause<A>, A>,
     ghost listed: { map (span_seen bytes.now) tokens.items ≡ fun_spans bytes.now },
@@ -21,11 +22,10 @@ pub struct FunWords<'a, A: Allocator> {
 impl<'a, A: Allocator + Copy> FunWords<'a, A> {
     ghost use Rattle.std.specs.Prelude.{MatchResult};
     ghost use Rattle.tn_fun.specs.Answers.{IsRefusedFun};
-    ghost use Rattle.tn_fun_words.specs.Views.{text_of_fun};
 
     /// The text, where it is a fun; else why it is none.
     pub fn of(alloc: A, bytes: &'a [u8]) -> Result<FunWords<'a, A>, ReadFault>
-        ensures { MatchResult result (λ w. text_of_fun w ≡ bytes.now)
+        ensures { MatchResult result (λ w. w.bytes.now ≡ bytes.now)
             (λ fault. IsRefusedFun bytes.now fault (fun_of_text bytes.now)) }
     {
         let clauses = read_fun(alloc, bytes)?;

@@ -8,7 +8,6 @@
 
 mod answer;
 mod condition;
-mod first_byte;
 mod fun_words;
 mod names;
 mod note;

@@ -6,7 +6,7 @@ ghost use Rattle.def_fun_words.specs.Notes.{note_of_kind_in_head};
 ghost use Rattle.def_fun_words.specs.Notes.{expr_notes, row_notes, clause_notes, note_line, notes_text};
 ghost use Rattle.tn_fun.specs.Trees.{token_name, fun_expr_seen, fun_row_seen};
 ghost use Rattle.tn_fun.specs.Clauses.{fun_head_seen, fun_clause_seen, guards_seen};
-ghost use Rattle.tn_fun_words.specs.Views.{head_names_seen, text_of_fun};
+ghost use Rattle.tn_fun_words.specs.Views.{head_names_seen};
 ghost use Rattle.tn_fun_words.specs.NoteViews.{fun_notes_seen, notes_in_head};
 
 use crate::fun_words::FunWords;
@@ -206,7 +206,7 @@ pub fn notes_of<A: Allocator + Copy>(
     alloc: A,
     fun: &FunWords<'_, A>,
 ) -> Result<Vec<u8, A>, AllocError>
-    ensures { IfOk result (λ v. v.items ≡ notes_text (text_of_fun fun.now)) }
+    ensures { IfOk result (λ v. v.items ≡ notes_text fun.now.bytes.now) }
 {
     let mut out = Vec::new(alloc);
     for i in 0..fun.clauses.len() {

@@ -5,7 +5,7 @@ ghost use Rattle.def_term.specs.Text.{atom_text};
 ghost use Rattle.def_text.specs.Places.{place_at};
 ghost use Rattle.def_fun_words.specs.WordTexts.{place_words, line_part_text, clause_after, condition_after, numbered};
 ghost use Rattle.def_fun_words.specs.WordTexts.{condition_words, variable_named, variable_words, name_numbered};
-ghost use Rattle.tn_fun_words.specs.Views.{condition_texts, line_words_seen, name_list_seen, text_of_fun};
+ghost use Rattle.tn_fun_words.specs.Views.{condition_texts, clause_words_seen, name_list_seen};
 
 use crate::condition::put_condition;
 use crate::fun_words::FunWords;
@@ -29,7 +29,7 @@ fn put_line<A: Allocator, B: Allocator>(
     words: Option<ClauseWords<'_, '_, A>>,
     out: &mut Vec<u8, B>,
 ) -> Result<(), AllocError>
-    ensures { OnOk result (out.new.items ≡ out.old.items ++ place_words (line_words_seen words.entry)) }
+    ensures { OnOk result (out.new.items ≡ out.old.items ++ place_words (option_map clause_words_seen words.entry)) }
 {
     let Some(words) = words else {
         return Ok(());
@@ -46,7 +46,7 @@ pub fn put_clause_number<A: Allocator, B: Allocator>(
     out: &mut Vec<u8, B>,
 ) -> Result<(), AllocError>
     ensures { OnOk result (out.new.items
-        ≡ out.old.items ++ line_part_text (line_words_seen words.entry) (clause_after before)) }
+        ≡ out.old.items ++ line_part_text (option_map clause_words_seen words.entry) (clause_after before)) }
 {
     put_clause(before, out)?;
     put_line(words, out)
@@ -71,7 +71,7 @@ fn put_condition_of<A: Allocator, B: Allocator>(
     out: &mut Vec<u8, B>,
 ) -> Result<(), AllocError>
     ensures { OnOk result (out.new.items ≡ out.old.items ++ condition_words
-        (slice_get (condition_texts (text_of_fun fun.now) conditions.now) before) before) }
+        (slice_get (condition_texts fun.now.bytes.now conditions.now) before) before) }
 {
     if before >= conditions.len() {
         return put_plain_condition(before, out);
@@ -87,7 +87,7 @@ pub fn put_condition_words<A: Allocator, B: Allocator>(
     out: &mut Vec<u8, B>,
 ) -> Result<(), AllocError>
     ensures { OnOk result (out.new.items
-        ≡ out.old.items ++ line_part_text (line_words_seen words.entry) (condition_after before)) }
+        ≡ out.old.items ++ line_part_text (option_map clause_words_seen words.entry) (condition_after before)) }
 {
     match words {
         Some(words) => put_condition_of(words.fun, words.conditions, before, out),
@@ -101,7 +101,7 @@ pub fn numbered_names<A: Allocator + Copy>(
     words: Option<ClauseWords<'_, '_, A>>,
 ) -> Result<Vec<Vec<u8, A>, A>, AllocError>
     ensures { IfOk result (λ v. (k : ℕ)
-        → name_numbered (name_list_seen v.items) k ≡ variable_named (line_words_seen words.entry) k) }
+        → name_numbered (name_list_seen v.items) k ≡ variable_named (option_map clause_words_seen words.entry) k) }
 {
     match words {
         Some(words) => {

@@ -1,5 +1,6 @@
 // Why a clause doesn't fire, in the words of a fun.
 ghost use Rattle.std.specs.Prelude.{◌≡◌, ◌++◌, ℕ, List, suc, OnOk, codes, decimal, flat_map};
+ghost use Rattle.std.specs.Option.{option_map};
 ghost use Rattle.def_fun_words.specs.WordTexts.{line_parts_text, head_parts, reason_parts};
 ghost use Rattle.def_explain.specs.Heads.{after_matching};
 ghost use Rattle.def_explain.specs.Reasons.{by_condition};
@@ -7,7 +8,7 @@ ghost use Rattle.def_explain.specs.Texts.{head_reason_text};
 ghost use Rattle.tn_mismatch.specs.Views.{mismatch_seen};
 ghost use Rattle.tn_verdict.specs.Views.{condition_seen, head_reason_seen, reason_seen};
 ghost use Rattle.tn_verdict.specs.MismatchTexts.{level_text};
-ghost use Rattle.tn_fun_words.specs.Views.{line_words_seen};
+ghost use Rattle.tn_fun_words.specs.Views.{clause_words_seen};
 
 use crate::numbers::{numbered_names, put_condition_words, put_name, put_plain_condition};
 use crate::words::ClauseWords;
@@ -83,7 +84,7 @@ fn put_mismatch<A: Allocator + Copy, B: Allocator>(
     mismatch: Mismatch<'_, A>,
     out: &mut Vec<u8, B>,
 ) -> Result<(), AllocError>
-    ensures { OnOk result (out.new.items ≡ out.old.items ++ line_parts_text (line_words_seen words.entry)
+    ensures { OnOk result (out.new.items ≡ out.old.items ++ line_parts_text (option_map clause_words_seen words.entry)
         (head_parts (after_matching count (mismatch_seen mismatch.entry)))) }
 {
     match mismatch.part {
@@ -109,7 +110,7 @@ fn put_head_reason<A: Allocator + Copy, B: Allocator>(
     why: HeadReason<'_, A>,
     out: &mut Vec<u8, B>,
 ) -> Result<(), AllocError>
-    ensures { OnOk result (out.new.items ≡ out.old.items ++ line_parts_text (line_words_seen words.entry)
+    ensures { OnOk result (out.new.items ≡ out.old.items ++ line_parts_text (option_map clause_words_seen words.entry)
         (head_parts (head_reason_seen why.entry))) }
 {
     match why {
@@ -129,7 +130,7 @@ fn put_condition_reason<A: Allocator + Copy, B: Allocator>(
     why: ConditionReason<'_, A>,
     out: &mut Vec<u8, B>,
 ) -> Result<(), AllocError>
-    ensures { OnOk result (out.new.items ≡ out.old.items ++ line_parts_text (line_words_seen words.entry)
+    ensures { OnOk result (out.new.items ≡ out.old.items ++ line_parts_text (option_map clause_words_seen words.entry)
         (reason_parts (by_condition index (condition_seen why.entry)))) }
 {
     put_condition_words(words, index, out)?;
@@ -147,7 +148,7 @@ pub fn put_reason_in_words<A: Allocator + Copy, B: Allocator>(
     reason: Reason<'_, A>,
     out: &mut Vec<u8, B>,
 ) -> Result<(), AllocError>
-    ensures { OnOk result (out.new.items ≡ out.old.items ++ line_parts_text (line_words_seen words.entry)
+    ensures { OnOk result (out.new.items ≡ out.old.items ++ line_parts_text (option_map clause_words_seen words.entry)
         (reason_parts (reason_seen reason.entry))) }
 {
     match reason {

@@ -1,11 +1,12 @@
 // The lines of a test in the words of a fun, up to the message.
 ghost use Rattle.std.specs.Prelude.{◌≡◌, ◌++◌, OnOk, map, flat_map, slice_get};
+ghost use Rattle.std.specs.Option.{option_map};
 ghost use Rattle.def_fun_words.specs.WordTexts.{line_in, failed_line, fired_clause_line, bound_line};
 ghost use Rattle.tn_guard.specs.Views.{value_seen};
 ghost use Rattle.tn_head.specs.Views.{binding_seen, bindings_seen};
 ghost use Rattle.tn_action.specs.Views.{effect_seen};
 ghost use Rattle.tn_verdict.specs.Views.{reason_seen};
-ghost use Rattle.tn_fun_words.specs.Views.{line_words_seen, fun_words_seen, name_list_seen};
+ghost use Rattle.tn_fun_words.specs.Views.{clause_words_seen, fun_words_seen, name_list_seen};
 ghost use Rattle.tn_fun_words.specs.FrontLines.{named_line, fired_lines_text, test_front_text_in};
 
 use crate::fun_words::FunWords;
@@ -74,8 +75,8 @@ fn put_fires<A: Allocator, B: Allocator>(
     effects: &[Effect<'_, A>],
     out: &mut Vec<u8, B>,
 ) -> Result<(), AllocError>
-    ensures { OnOk result (out.new.items ≡ out.old.items
-        ++ line_in (line_words_seen words.entry) (fired_clause_line before (map effect_seen effects.now))) }
+    ensures { OnOk result (out.new.items ≡ out.old.items ++ line_in (option_map clause_words_seen words.entry)
+        (fired_clause_line before (map effect_seen effects.now))) }
 {
     put_clause_number(words, before, out)?;
     out.extend_from_slice(b" fires")?;
@@ -92,8 +93,8 @@ fn put_fired<A: Allocator + Copy, D: Allocator, B: Allocator>(
     effects: &[Effect<'_, A>],
     out: &mut Vec<u8, B>,
 ) -> Result<(), AllocError>
-    ensures { OnOk result (out.new.items ≡ out.old.items ++ fired_lines_text (line_words_seen words.entry) before
-        (bindings_seen bindings.now) (map effect_seen effects.now)) }
+    ensures { OnOk result (out.new.items ≡ out.old.items ++ fired_lines_text (option_map clause_words_seen words.entry)
+        before (bindings_seen bindings.now) (map effect_seen effects.now)) }
 {
     let names = numbered_names(alloc, words)?;
     put_fires(words, before, effects, out)?;
@@ -109,7 +110,7 @@ fn put_failed<A: Allocator + Copy, B: Allocator>(
     out: &mut Vec<u8, B>,
 ) -> Result<(), AllocError>
     ensures { OnOk result (out.new.items ≡ out.old.items
-        ++ line_in (line_words_seen words.entry) (failed_line before (reason_seen reason.entry))) }
+        ++ line_in (option_map clause_words_seen words.entry) (failed_line before (reason_seen reason.entry))) }
 {
     put_clause_number(words, before, out)?;
     out.extend_from_slice(b": ")?;
@@ -122,7 +123,7 @@ fn words_for<'a, 'f, A: Allocator + Copy>(
     fun: Option<&'a FunWords<'f, A>>,
     index: usize,
 ) -> Option<ClauseWords<'a, 'f, A>>
-    ensures { line_words_seen result ≡ slice_get (fun_words_seen fun.entry) index }
+    ensures { option_map clause_words_seen result ≡ slice_get (fun_words_seen fun.entry) index }
 {
     match fun {
         Some(fun) => fun.clause_words(index),

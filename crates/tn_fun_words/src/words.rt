@@ -2,8 +2,9 @@
 ghost use Rattle.std.specs.Prelude.{◌≡◌, ℕ, List, slice_get, max};
 ghost use Rattle.std.specs.Option.{option_map};
 ghost use Rattle.def_fun.specs.Translation.{alternatives_of};
+ghost use Rattle.tn_fun.specs.Trees.{fun_row_seen};
 ghost use Rattle.tn_fun.specs.Clauses.{guards_seen};
-ghost use Rattle.tn_fun_words.specs.Views.{clause_words_seen, conditions_seen, all_words_seen};
+ghost use Rattle.tn_fun_words.specs.Views.{clause_words_seen, all_words_seen};
 
 use crate::fun_words::FunWords;
 use std::alloc::Allocator;
@@ -19,7 +20,7 @@ pub struct ClauseWords<'a, 'f, A: Allocator> {
 
 /// The conditions of one of the guards of a clause; none of a clause without guards.
 fn alternative<A: Allocator>(guards: &Vec<Vec<Expr<A>, A>, A>, index: usize) -> Option<&[Expr<A>]>
-    ensures { (text : List ℕ) → option_map (conditions_seen text) result
+    ensures { (text : List ℕ) → option_map (λ es. fun_row_seen text es.now) result
         ≡ slice_get (alternatives_of (guards_seen text guards.now.items)) index }
 {
     if guards.is_empty() {

@@ -131,17 +131,17 @@ TRIAL = codes "list" ∷ codes "for" ∷ codes "me" ∷ codes "caller" ∷ codes
 abbrev pub FUN_ARGUMENTS : List (List ℕ)
 FUN_ARGUMENTS = codes "for" ∷ codes "pretty" ∷ codes "fun" ∷ []
 
--- which schedules, and what is in an order
+-- which schedules, what is in an order, and whether the answer is JSON
 abbrev pub SCHEDULES : List (List ℕ)
-SCHEDULES = codes "script" ∷ codes "after" ∷ codes "control" ∷ codes "order" ∷ codes "session" ∷ []
+SCHEDULES = codes "script" ∷ codes "after" ∷ codes "control" ∷ codes "order" ∷ codes "session" ∷ codes "json" ∷ []
 
 -- the arguments of `explore`
 abbrev pub EXPLORE_ARGUMENTS : List (List ℕ)
 EXPLORE_ARGUMENTS = SCHEDULES ++ codes "shows" ∷ codes "always" ∷ codes "never" ∷ codes "sometimes" ∷ codes "max-states" ∷ codes "max-output" ∷ []
 
--- which trace, and with which schedules it is compared
+-- which trace, with which schedules it is compared, and whether the answer is JSON
 abbrev pub TRACES : List (List ℕ)
-TRACES = codes "script" ∷ codes "trace" ∷ codes "prefix" ∷ codes "after" ∷ codes "control" ∷ []
+TRACES = codes "script" ∷ codes "trace" ∷ codes "prefix" ∷ codes "after" ∷ codes "control" ∷ codes "json" ∷ []
 
 -- the arguments of `compare`
 abbrev pub COMPARE_ARGUMENTS : List (List ℕ)
@@ -149,4 +149,4 @@ COMPARE_ARGUMENTS = TRACES ++ codes "order" ∷ codes "session" ∷ codes "max-s
 
 -- the commands of the program
 abbrev pub COMMAND_NAMES : List (List ℕ)
-COMMAND_NAMES = codes "run" ∷ codes "replay" ∷ codes "round" ∷ codes "workers" ∷ codes "explain" ∷ codes "draw" ∷ codes "spec" ∷ codes "fun" ∷ codes "explore" ∷ codes "compare" ∷ []
+COMMAND_NAMES = codes "run" ∷ codes "replay" ∷ codes "round" ∷ codes "workers" ∷ codes "explain" ∷ codes "draw" ∷ codes "spec" ∷ codes "fun" ∷ codes "explore" ∷ codes "compare" ∷ codes "serve" ∷ []

@@ -2,7 +2,7 @@
 ghost use Rattle.std.specs.Prelude.{codes, IfOk};
 ghost use Rattle.tn_line.specs.Line.{COMPARE_ARGUMENTS, TRACES, IsCommand, IsFlag, IsOption};
 
-use crate::arguments::{max_output, script};
+use crate::arguments::{json, max_output, script};
 use crate::explore_command::{after, first_control, listing_order, max_states, one_session};
 use clap::{Arg, ArgAction, Command};
 use std::alloc::{AllocError, Global};
@@ -29,7 +29,8 @@ fn prefix<'a>(alloc: Global) -> Arg<'a>
         .action(ArgAction::SetTrue)
 }
 
-/// The command with the arguments that say which trace, and with which schedules it is compared.
+/// The command with the arguments that say which trace, with which schedules it is compared, and whether the answer is
+/// JSON.
 fn traces<'a>(alloc: Global) -> Result<Command<'a>, AllocError>
     ensures { IfOk result (IsCommand (codes "compare") TRACES) }
 {
@@ -41,11 +42,12 @@ fn traces<'a>(alloc: Global) -> Result<Command<'a>, AllocError>
         .arg(trace(alloc))?
         .arg(prefix(alloc))?
         .arg(after(alloc))?
-        .arg(first_control(alloc)?)
+        .arg(first_control(alloc)?)?
+        .arg(json(alloc))
 }
 
 /// The subcommand `compare [SCRIPT] --trace FILE [--prefix] [--after MOVES] [--control first] [--order ORDER]
-/// [--session NAME] [--max-states N] [--max-output BYTES]`.
+/// [--session NAME] [--json] [--max-states N] [--max-output BYTES]`.
 pub(crate) fn compare<'a>(alloc: Global) -> Result<Command<'a>, AllocError>
     ensures { IfOk result (IsCommand (codes "compare") COMPARE_ARGUMENTS) }
 {

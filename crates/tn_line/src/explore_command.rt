@@ -2,7 +2,7 @@
 ghost use Rattle.std.specs.Prelude.{codes, IfOk};
 ghost use Rattle.tn_line.specs.Line.{EXPLORE_ARGUMENTS, SCHEDULES, IsCommand, IsElse, IsFromTo, IsOption, IsOptions};
 
-use crate::arguments::{ORDERS, max_output, script};
+use crate::arguments::{ORDERS, json, max_output, script};
 use clap::{Arg, ArgAction, Command, value_parser};
 use std::alloc::{AllocError, Global};
 
@@ -135,7 +135,7 @@ pub(crate) fn max_states<'a>(alloc: Global) -> Arg<'a>
         .action(ArgAction::Set)
 }
 
-/// The command with the arguments that say which schedules, and what is in an order.
+/// The command with the arguments that say which schedules, what is in an order, and whether the answer is JSON.
 fn schedules<'a>(alloc: Global) -> Result<Command<'a>, AllocError>
     ensures { IfOk result (IsCommand (codes "explore") SCHEDULES) }
 {
@@ -145,11 +145,12 @@ fn schedules<'a>(alloc: Global) -> Result<Command<'a>, AllocError>
         .arg(after(alloc))?
         .arg(first_control(alloc)?)?
         .arg(listing_order(alloc))?
-        .arg(one_session(alloc))
+        .arg(one_session(alloc))?
+        .arg(json(alloc))
 }
 
 /// The subcommand `explore [SCRIPT] [--after MOVES] [--control first] [--order ORDER] [--session NAME]
-/// [--shows PATTERN] [--always PATTERN] [--never PATTERN] [--sometimes PATTERN] [--max-states N]
+/// [--json] [--shows PATTERN] [--always PATTERN] [--never PATTERN] [--sometimes PATTERN] [--max-states N]
 /// [--max-output BYTES]`.
 pub(crate) fn explore<'a>(alloc: Global) -> Result<Command<'a>, AllocError>
     ensures { IfOk result (IsCommand (codes "explore") EXPLORE_ARGUMENTS) }

@@ -3,7 +3,7 @@ use Rattle.std.proofs.Common.{◌≡◌, ◌∙◌, sym, ap, ap₂, ℕ, suc, �
 use Rattle.std.specs.Prelude.{if◌then◌else◌}
 use Rattle.std.proofs.lemmas.List.{drop_more}
 use Rattle.def_term.specs.Tree.{Tree}
-use Rattle.def_renaming.specs.Renaming.{with_term_pairs, with_element_pairs, with_beginning_pairs}
+use Rattle.def_renaming.specs.Renaming.{with_term_pairs, with_element_pairs, with_prefix_pairs}
 use Rattle.tn_term.proofs.Trees.{seen, here}
 use Rattle.tn_renaming.specs.Pairs.{LeavesPairs}
 
@@ -62,11 +62,11 @@ list_here f xs i x below is = ap (map f) (drop_more xs i x below) ∙ ap (λ z. 
 
 pub begun_here : {X Y : Type 0} (f : X → Tree) (h : Y → Tree) (xs : List X) (ys : List Y) (i : ℕ) (x : X) (y : Y) (ps : List (ℕ × ℕ))
     → i < length xs → i < length ys → x ≡ get_or xs i x → y ≡ get_or ys i y
-    → with_beginning_pairs ps (map f (drop i xs)) (map h (drop i ys)) ≡ option_and_then (λ qs. with_beginning_pairs qs (map f (drop (i + 1) xs)) (map h (drop (i + 1) ys))) (with_term_pairs ps (f x) (h y))
-begun_here f h xs ys i x y ps p q is js = ap₂ (with_beginning_pairs ps) (list_here f xs i x p is) (list_here h ys i y q js)
+    → with_prefix_pairs ps (map f (drop i xs)) (map h (drop i ys)) ≡ option_and_then (λ qs. with_prefix_pairs qs (map f (drop (i + 1) xs)) (map h (drop (i + 1) ys))) (with_term_pairs ps (f x) (h y))
+begun_here f h xs ys i x y ps p q is js = ap₂ (with_prefix_pairs ps) (list_here f xs i x p is) (list_here h ys i y q js)
 
-pub too_short : {X Y : Type 0} (f : X → Tree) (h : Y → Tree) (xs : List X) (ys : List Y) (ps : List (ℕ × ℕ)) → length ys < length xs → with_beginning_pairs ps (map f xs) (map h ys) ≡ None
+pub too_short : {X Y : Type 0} (f : X → Tree) (h : Y → Tree) (xs : List X) (ys : List Y) (ps : List (ℕ × ℕ)) → length ys < length xs → with_prefix_pairs ps (map f xs) (map h ys) ≡ None
 too_short f h [] ys ps below = absurd (omega arith)
 too_short f h (x ∷ xs) [] ps below = refl
 too_short f h (x ∷ xs) (y ∷ ys) ps below =
-    none_after (λ qs. with_beginning_pairs qs (map f xs) (map h ys)) (with_term_pairs ps (f x) (h y)) (λ qs. too_short f h xs ys qs (omega arith))
+    none_after (λ qs. with_prefix_pairs qs (map f xs) (map h ys)) (with_term_pairs ps (f x) (h y)) (λ qs. too_short f h xs ys qs (omega arith))

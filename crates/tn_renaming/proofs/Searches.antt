@@ -6,7 +6,7 @@ use Rattle.std.proofs.lemmas.List.{drop_all, drop_more, length-map, take-map}
 use Rattle.std.proofs.lemmas.Result.{IfOk-weaker}
 use Rattle.std.proofs.Math.Seq.{take-append_seam}
 use Rattle.def_term.specs.Tree.{Tree}
-use Rattle.def_renaming.specs.Renaming.{with_beginning_pairs, renamings, renamings_of}
+use Rattle.def_renaming.specs.Renaming.{with_prefix_pairs, renamings, renamings_of}
 use Rattle.tn_renaming.specs.Pairs.{LeavesPairs, first_from}
 
 -- ---- lists of pairs
@@ -43,50 +43,50 @@ first_now groups lists pss qss ps e =
 -- ---- lists
 
 module _ {L : Type 0} (view : L → List Tree) (group : List Tree) (groups lists : List (List Tree)) (ps : List (ℕ × ℕ)) (ls : List L) (i : ℕ) (l : L) (below : i < length ls) (is : l ≡ get_or ls i l) where
-  from_here : flat_map (λ us. option_to_list (with_beginning_pairs ps group us)) (map view (drop i ls))
-      ≡ option_to_list (with_beginning_pairs ps group (view l)) ++ flat_map (λ us. option_to_list (with_beginning_pairs ps group us)) (map view (drop (i + 1) ls))
-  from_here = ap (λ xs. flat_map (λ us. option_to_list (with_beginning_pairs ps group us)) (map view xs)) (drop_more ls i l below)
-      ∙ ap (λ z. option_to_list (with_beginning_pairs ps group (view z)) ++ flat_map (λ us. option_to_list (with_beginning_pairs ps group us)) (map view (drop (i + 1) ls))) (sym is)
+  from_here : flat_map (λ us. option_to_list (with_prefix_pairs ps group us)) (map view (drop i ls))
+      ≡ option_to_list (with_prefix_pairs ps group (view l)) ++ flat_map (λ us. option_to_list (with_prefix_pairs ps group us)) (map view (drop (i + 1) ls))
+  from_here = ap (λ xs. flat_map (λ us. option_to_list (with_prefix_pairs ps group us)) (map view xs)) (drop_more ls i l below)
+      ∙ ap (λ z. option_to_list (with_prefix_pairs ps group (view z)) ++ flat_map (λ us. option_to_list (with_prefix_pairs ps group us)) (map view (drop (i + 1) ls))) (sym is)
 
   -- where the list gives nothing, the lists after it give what all of them do
   pub passed_here : (new : List (ℕ × ℕ)) (b : Bool) (whole : Option (List (ℕ × ℕ))) → b ≡ false
-      → LeavesPairs ps (first_from groups lists (option_to_list (with_beginning_pairs ps group (view l)))) b new
-      → first_from groups lists (flat_map (λ us. option_to_list (with_beginning_pairs ps group us)) (map view (drop i ls))) ≡ whole
-      → first_from groups lists (flat_map (λ us. option_to_list (with_beginning_pairs ps group us)) (map view (drop (i + 1) ls))) ≡ whole
+      → LeavesPairs ps (first_from groups lists (option_to_list (with_prefix_pairs ps group (view l)))) b new
+      → first_from groups lists (flat_map (λ us. option_to_list (with_prefix_pairs ps group us)) (map view (drop i ls))) ≡ whole
+      → first_from groups lists (flat_map (λ us. option_to_list (with_prefix_pairs ps group us)) (map view (drop (i + 1) ls))) ≡ whole
   passed_here new b whole missed leaves all =
-      let none : first_from groups lists (option_to_list (with_beginning_pairs ps group (view l))) ≡ None = leaves.is ∙ ap (λ c. if c then Some new else None) missed in
-      sym (ap (first_from groups lists) from_here ∙ first_later groups lists (option_to_list (with_beginning_pairs ps group (view l))) (flat_map (λ us. option_to_list (with_beginning_pairs ps group us)) (map view (drop (i + 1) ls))) none) ∙ all
+      let none : first_from groups lists (option_to_list (with_prefix_pairs ps group (view l))) ≡ None = leaves.is ∙ ap (λ c. if c then Some new else None) missed in
+      sym (ap (first_from groups lists) from_here ∙ first_later groups lists (option_to_list (with_prefix_pairs ps group (view l))) (flat_map (λ us. option_to_list (with_prefix_pairs ps group us)) (map view (drop (i + 1) ls))) none) ∙ all
 
   -- where it gives pairs, all of them give these
   pub found_here : (new : List (ℕ × ℕ)) (b : Bool) (whole : Option (List (ℕ × ℕ))) → b ≡ true
-      → LeavesPairs ps (first_from groups lists (option_to_list (with_beginning_pairs ps group (view l)))) b new
-      → first_from groups lists (flat_map (λ us. option_to_list (with_beginning_pairs ps group us)) (map view (drop i ls))) ≡ whole
+      → LeavesPairs ps (first_from groups lists (option_to_list (with_prefix_pairs ps group (view l)))) b new
+      → first_from groups lists (flat_map (λ us. option_to_list (with_prefix_pairs ps group us)) (map view (drop i ls))) ≡ whole
       → LeavesPairs ps whole true new
   found_here new b whole found leaves all =
-      let some : first_from groups lists (option_to_list (with_beginning_pairs ps group (view l))) ≡ Some new = leaves.is ∙ ap (λ c. if c then Some new else None) found in
+      let some : first_from groups lists (option_to_list (with_prefix_pairs ps group (view l))) ≡ Some new = leaves.is ∙ ap (λ c. if c then Some new else None) found in
       record {
-        is = sym all ∙ ap (first_from groups lists) from_here ∙ first_now groups lists (option_to_list (with_beginning_pairs ps group (view l))) (flat_map (λ us. option_to_list (with_beginning_pairs ps group us)) (map view (drop (i + 1) ls))) new some;
+        is = sym all ∙ ap (first_from groups lists) from_here ∙ first_now groups lists (option_to_list (with_prefix_pairs ps group (view l))) (flat_map (λ us. option_to_list (with_prefix_pairs ps group us)) (map view (drop (i + 1) ls))) new some;
         more = leaves.more;
         kept = leaves.kept;
       }
 
 -- after the last list nothing is given
 pub no_more_lists : {L : Type 0} (view : L → List Tree) (group : List Tree) (groups lists : List (List Tree)) (ps now : List (ℕ × ℕ)) (ls : List L) (i : ℕ) (whole : Option (List (ℕ × ℕ))) → length ls ≤ i → now ≡ ps
-    → first_from groups lists (flat_map (λ us. option_to_list (with_beginning_pairs ps group us)) (map view (drop i ls))) ≡ whole → LeavesPairs ps whole false now
+    → first_from groups lists (flat_map (λ us. option_to_list (with_prefix_pairs ps group us)) (map view (drop i ls))) ≡ whole → LeavesPairs ps whole false now
 no_more_lists view group groups lists ps now ls i whole past same all = record {
-  is = sym all ∙ ap (λ xs. first_from groups lists (flat_map (λ us. option_to_list (with_beginning_pairs ps group us)) (map view xs))) (drop_all i ls past) ∙ first_of_none groups lists;
+  is = sym all ∙ ap (λ xs. first_from groups lists (flat_map (λ us. option_to_list (with_prefix_pairs ps group us)) (map view xs))) (drop_all i ls past) ∙ first_of_none groups lists;
   more = [];
   kept = same ∙ sym (append-nil ps);
 }
 
 -- what a call gives, which is made with the same pairs and the same messages
 pub given_by : {X Y : Type 0} (f : X → Tree) (h : Y → Tree) (groups lists : List (List Tree)) (ps now new : List (ℕ × ℕ)) (xs group : List X) (ys us : List Y) (b : Bool) → now ≡ ps → xs ≡ group → ys ≡ us
-    → LeavesPairs now (first_from groups lists (option_to_list (with_beginning_pairs now (map f xs) (map h ys)))) b new
-    → LeavesPairs ps (first_from groups lists (option_to_list (with_beginning_pairs ps (map f group) (map h us)))) b new
+    → LeavesPairs now (first_from groups lists (option_to_list (with_prefix_pairs now (map f xs) (map h ys)))) b new
+    → LeavesPairs ps (first_from groups lists (option_to_list (with_prefix_pairs ps (map f group) (map h us)))) b new
 given_by f h groups lists ps now new xs group ys us b same one other leaves =
-    subst (λ x. LeavesPairs ps (first_from groups lists (option_to_list (with_beginning_pairs ps (map f group) (map h x)))) b new) other
-    (subst (λ x. LeavesPairs ps (first_from groups lists (option_to_list (with_beginning_pairs ps (map f x) (map h ys)))) b new) one
-    (subst (λ x. LeavesPairs x (first_from groups lists (option_to_list (with_beginning_pairs x (map f xs) (map h ys)))) b new) same leaves))
+    subst (λ x. LeavesPairs ps (first_from groups lists (option_to_list (with_prefix_pairs ps (map f group) (map h x)))) b new) other
+    (subst (λ x. LeavesPairs ps (first_from groups lists (option_to_list (with_prefix_pairs ps (map f x) (map h ys)))) b new) one
+    (subst (λ x. LeavesPairs x (first_from groups lists (option_to_list (with_prefix_pairs x (map f xs) (map h ys)))) b new) same leaves))
 
 -- ---- pairs that are taken back
 

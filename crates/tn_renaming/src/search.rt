@@ -1,6 +1,6 @@
 // The search for pairs of pids.
 ghost use Rattle.std.specs.Prelude.{◌≡◌, IfOk, [], ◌∷◌, map, option_map, option_to_list};
-ghost use Rattle.def_renaming.specs.Renaming.{with_beginning_pairs, first_renaming};
+ghost use Rattle.def_renaming.specs.Renaming.{with_prefix_pairs, first_renaming};
 ghost use Rattle.tn_renaming.specs.Pairs.{LeavesPairs, first_from, pairs_seen, lent_term_seen, lent_terms_seen};
 
 use crate::pairs::PidPair;
@@ -43,7 +43,7 @@ fn extend_by_list<A: Allocator, B: Allocator, C: Allocator>(
     lists: &[Vec<&Term<C>, A>],
 ) -> Result<bool, AllocError>
     ensures { let old = pairs_seen pairs.old in
-        let given = with_beginning_pairs old (map lent_term_seen group.now) (map lent_term_seen list.now) in
+        let given = with_prefix_pairs old (map lent_term_seen group.now) (map lent_term_seen list.now) in
         let first = first_from (map lent_terms_seen rest.now) (map lent_terms_seen lists.now) (option_to_list given) in
         IfOk result (λ b. LeavesPairs old first b (pairs_seen pairs.new)) }
 {

@@ -1,6 +1,6 @@
 // Terms that are the same but for pids.
 ghost use Rattle.std.specs.Prelude.{IfOk, map};
-ghost use Rattle.def_renaming.specs.Renaming.{with_term_pairs, with_element_pairs, with_beginning_pairs};
+ghost use Rattle.def_renaming.specs.Renaming.{with_term_pairs, with_element_pairs, with_prefix_pairs};
 ghost use Rattle.tn_renaming.specs.Pairs.{LeavesPairs, pairs_seen, lent_term_seen};
 ghost use Rattle.tn_term.specs.Views.{tree_of, trees_of};
 
@@ -59,7 +59,7 @@ pub(crate) fn match_beginning<A: Allocator, B: Allocator, C: Allocator>(
     here: &[&Term<C>],
 ) -> Result<bool, AllocError>
     ensures { let old = pairs_seen pairs.old in
-        let given = with_beginning_pairs old (map lent_term_seen there.now) (map lent_term_seen here.now) in
+        let given = with_prefix_pairs old (map lent_term_seen there.now) (map lent_term_seen here.now) in
         IfOk result (λ b. LeavesPairs old given b (pairs_seen pairs.new)) }
 {
     if here.len() < there.len() {

@@ -23,6 +23,7 @@ pub record IsExplorationAsked (args : ExploreArgs) (asked : SearchQuestion Globa
   pub session : q.session ≡ args.session
   pub question : q.question ≡ asked
   pub max_states : q.max_states ≡ args.max_states
+  pub form : q.form ≡ args.form
 
 -- the patterns that the texts of each option spell, with what the option demands
 pub record ArePatternsAsked (args : ExploreArgs) (qs : List words.PatternQuestion) : Type 0 where

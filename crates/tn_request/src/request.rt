@@ -1,6 +1,7 @@
 // What the command line asks for.
 ghost use Rattle.std.specs.Prelude.{◌≡◌, None};
 
+use tn_answers::AnswerForm;
 use tn_command::Source;
 use tn_explain::Filter;
 use tn_picture::PictureFormat;
@@ -92,6 +93,8 @@ pub struct ExploreArgs<'a> {
     pub goes_on: bool,
     /// How many states may be met before it ends.
     pub max_states: u32,
+    /// The form of the answer.
+    pub form: AnswerForm,
 }
 
 /// What an output must be, in the words of the command line.

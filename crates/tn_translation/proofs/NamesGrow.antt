@@ -5,23 +5,9 @@ use Rattle.std.proofs.lemmas.List.{append_assoc, append-nil}
 use Rattle.def_term.specs.Names.{Name}
 use Rattle.def_term.specs.Text.{is_among}
 use Rattle.def_fun.specs.Variables.{ANY, ClauseNames, is_of_whole, with_name, with_names, number_among, the_whole, anything_there, of_no_head, kind_of_number, variable_kind}
+use Rattle.def_fun.proofs.NamesGrow.{names_after, names_grow}
 use Rattle.def_fun.proofs.NumberedNames.{equal_names, bound, kinds, has_number, among_numbered}
 use Rattle.tn_translation.specs.Names.{more_names, Extends}
-
-pub names_after : (w : Option Name) (ns ss us : List Name) → with_names w ns (ss ++ us) ≡ with_names w (with_names w ns ss) us
-names_after w ns [] us = refl
-names_after w ns (s ∷ ss) us = names_after w (with_name w ns s) ss us
-
-grown_by : (b : Bool) (ns : List Name) (s : Name) → (more : List Name) × (cond b ns (ns ++ s ∷ []) ≡ ns ++ more)
-grown_by true ns s = ([], sym (append-nil ns))
-grown_by false ns s = (s ∷ [], refl)
-
-names_grow : (w : Option Name) (ns ss : List Name) → (more : List Name) × (with_names w ns ss ≡ ns ++ more)
-names_grow w ns [] = ([], sym (append-nil ns))
-names_grow w ns (s ∷ ss) =
-    let one = grown_by (is_of_whole w s || (bytes_eq s ANY || is_among ns s)) ns s in
-    let rest = names_grow w (with_name w ns s) ss in
-    (one.0 ++ rest.0, rest.1 ∙ ap (λ l. l ++ rest.0) one.1 ∙ append_assoc ns one.0 rest.0)
 
 number_kept_by : (b : Bool) (k : ℕ) (ns more : List Name) (s : Name) (j : ℕ) → (number_among (k + 1) ns s ≡ Some j → number_among (k + 1) (ns ++ more) s ≡ Some j)
     → cond b (Some k) (number_among (k + 1) ns s) ≡ Some j → cond b (Some k) (number_among (k + 1) (ns ++ more) s) ≡ Some j

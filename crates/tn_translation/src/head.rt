@@ -13,9 +13,9 @@ ghost use Rattle.tn_translation.specs.Specifications.{GivesHead, matched_names, 
 use crate::fault::FunFault;
 use crate::names::ClauseNames;
 use crate::pattern::pattern_term;
-use crate::tails::{first_byte, within_depth};
+use crate::tails::within_depth;
 use std::alloc::{AllocError, Allocator};
-use tn_fun::{Expr, Head, Token, name_of};
+use tn_fun::{Expr, Head, Token, first_byte, name_of};
 use tn_term::Term;
 
 /// The deepest term of a head: a clause is two levels deeper.

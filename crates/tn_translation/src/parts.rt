@@ -7,9 +7,9 @@ ghost use Rattle.tn_translation.specs.Scopes.{part_term_in, part_terms_in, text_
 
 use crate::expr::{Scope, expr_translated};
 use crate::fault::FunFault;
-use crate::tails::{first_byte, within_depth};
+use crate::tails::within_depth;
 use std::alloc::Allocator;
-use tn_fun::Expr;
+use tn_fun::{Expr, first_byte};
 use tn_term::Term;
 
 /// The deepest term of a condition, or of an expression of a body: a clause is three levels deeper.

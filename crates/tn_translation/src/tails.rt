@@ -1,7 +1,6 @@
-// Places of expressions, and lists with a tail.
+// Lists with a tail, and how deep a term may be.
 ghost use Rattle.std.specs.Prelude.{◌≡◌, ℕ, List, ◌++◌, IfOk};
 ghost use Rattle.def_term.specs.Tree.{list, of_elements};
-ghost use Rattle.def_fun.specs.Trees.{first_byte as first_byte_of};
 ghost use Rattle.def_fun.specs.Translation.{is_proper_tail as is_tail, elements_of_list};
 ghost use Rattle.def_fun.specs.Translation.{onto_tail as list_onto_tail, within_depth as if_within};
 ghost use Rattle.tn_fun.specs.Trees.{fun_expr_seen};
@@ -12,31 +11,11 @@ ghost use Rattle.tn_translation.specs.Values.{term_row_seen};
 
 use crate::fault::FunFault;
 use std::alloc::{AllocError, Allocator};
-use tn_fun::Expr;
+use tn_fun::{Expr, first_byte};
 use tn_term::Term;
 
 /// The most elements of a list with those of its tail.
 const MAX_LIST: usize = 4096;
-
-/// The offset of the first byte of an expression.
-#[cycle(first)]
-pub fn first_byte<A: Allocator>(expr: &Expr<A>) -> usize
-    ensures { (text : List ℕ) → result ≡ first_byte_of (fun_expr_seen text expr.now) }
-{
-    match expr {
-        Expr::Variable(token)
-        | Expr::Atom(token)
-        | Expr::Strings(token, _)
-        | Expr::Call(token, _) => { token.from }
-        Expr::Integer(at, _)
-        | Expr::Parens(at, _)
-        | Expr::List(at, _)
-        | Expr::ListOnto(at, _, _)
-        | Expr::Tuple(at, _)
-        | Expr::Before(at, _, _) => *at,
-        Expr::Between(_, _, left, _) => first_byte(left),
-    }
-}
 
 /// Whether the tail of a list is a list or strings.
 #[cycle(tail)]

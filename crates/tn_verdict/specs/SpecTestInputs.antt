@@ -23,6 +23,7 @@ use Rattle.tn_spec.specs.Readings.{IsFaultIn, IsTooLarge, FaultAgreesWithSize}
 use Rattle.tn_spec.specs.Views.{dialect_of}
 use Rattle.tn_spec.specs.Wholes.{spec_seen}
 use Rattle.tn_verdict.specs.declared.spec_test_input.SpecTestInput.{SpecTestInput}
+use Rattle.tn_verdict.specs.declared.spec_test_input.SpecTestTerms.{SpecTestTerms}
 use Rattle.tn_verdict.specs.declared.spec_test_input.SpecTestFault.{SpecTestFault}
 use Rattle.tn_verdict.specs.declared.spec_test_input.SpecTestFault.TheVariants as faults
 
@@ -96,6 +97,14 @@ IsSpecificationFault bytes d (faults.Text f) = IsTextRefusal bytes f
 IsSpecificationFault bytes d (faults.Spec n f) = (t : Tree) × Spells bytes t × IsFaultIn d t f × FaultAgreesWithSize t f × (n ≡ stop_of (dialect_of d) t)
 IsSpecificationFault bytes d faults.OutOfMemory = Unit {0}
 IsSpecificationFault bytes d _ = ⊥
+
+-- ---- all three
+
+-- the texts spell these terms
+pub record AreTermsOf {A : Type 0} (q : SpecTestInput) (ts : SpecTestTerms A) : Type 0 where
+  pub of_list : IsListRead q.list.now ts.list
+  pub of_caller : caller_is q.caller (mfas_seen ts.caller)
+  pub of_spec : IsSpecificationRead q.spec.now q.dialect ts.spec
 
 -- ---- the answer
 

@@ -3,8 +3,9 @@
 //!
 //! Depends on tn_spec, tn_head, tn_guard and tn_action, on tn_mismatch, tn_difference and tn_reason, on tn_text, and on
 //! the definitions of def_explain. Promises that `verdict` is the defined one, that `put_spec_reason` appends the
-//! defined text, and that `put_spec_test` appends the defined lines, and nothing where memory is refused. What a reason
-//! names is lent from the specification or the term, or lies in the arena: no term is copied.
+//! defined text, that `put_spec_test` appends the defined lines, and nothing where memory is refused, and that
+//! `terms_of` gives the terms that the texts of a question spell. What a reason names is lent from the specification or
+//! the term, or lies in the arena: no term is copied.
 #![tactic(auto)]
 
 mod clauses;
@@ -28,4 +29,6 @@ pub use reason::{ConditionReason, HeadReason, Reason, Verdict};
 pub use reason_text::put_reason;
 pub use spec_reason_texts::{put_setting_reason, put_spec_reason};
 pub use spec_test::{put_clause, put_spec_test};
-pub use spec_test_input::{SpecTestFault, SpecTestInput, answer};
+pub use spec_test_input::{
+    SpecTestFault, SpecTestInput, SpecTestTerms, answer, spec_test_flags, terms_of,
+};

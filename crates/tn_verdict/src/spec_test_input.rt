@@ -10,7 +10,8 @@ ghost use Rattle.tn_spec.specs.Views.{dialect_of};
 ghost use Rattle.tn_verdict.specs.SpecTestInputs.{IsListRead, IsListFault, IsArityOf};
 ghost use Rattle.tn_verdict.specs.SpecTestInputs.{IsMfaOf, IsNamed, IsCallerFault};
 ghost use Rattle.tn_verdict.specs.SpecTestInputs.{mfas_seen, caller_is, HasCallerFault};
-ghost use Rattle.tn_verdict.specs.SpecTestInputs.{IsSpecificationRead, IsSpecificationFault, IsAnswerTo, IsNoAnswer};
+ghost use Rattle.tn_verdict.specs.SpecTestInputs.{IsSpecificationRead, IsSpecificationFault};
+ghost use Rattle.tn_verdict.specs.SpecTestInputs.{AreTermsOf, IsAnswerTo, IsNoAnswer};
 
 use crate::spec_test::put_spec_test;
 use std::alloc::{AllocError, Allocator};
@@ -37,6 +38,17 @@ pub struct SpecTestInput<'a> {
     pub caller: Option<&'a [u8]>,
     /// The text of the specification.
     pub spec: &'a [u8],
+}
+
+/// What the texts of a question spell.
+#[derive(Drop)]
+pub struct SpecTestTerms<A: Allocator> {
+    /// The elements of the list.
+    pub list: Vec<Term<A>, A>,
+    /// The function that made the call; None for an entry call.
+    pub caller: Option<Mfa<A>>,
+    /// The specification.
+    pub spec: Spec<A>,
 }
 
 /// Why a question has no answer: the first of its texts that isn't what it should be.
@@ -223,6 +235,23 @@ fn specification<A: Allocator + Copy>(
     }
 }
 
+/// What the texts of the question spell: the list, the caller and the specification.
+///
+/// # Errors
+///
+/// The fault of the first text that isn't what it should be, or refused memory.
+pub fn terms_of<A: Allocator + Copy>(
+    alloc: A,
+    question: &SpecTestInput<'_>,
+) -> Result<SpecTestTerms<A>, SpecTestFault<A>>
+    ensures { MatchResult result (λ terms. AreTermsOf question.now terms) (λ fault. IsNoAnswer question.now fault) }
+{
+    let list = list_of(alloc, question.list)?;
+    let caller = caller_of(alloc, question.caller)?;
+    let spec = specification(alloc, question.spec, question.dialect)?;
+    Ok(SpecTestTerms { list, caller, spec })
+}
+
 /// The flag without which a specification isn't looked at.
 fn flag_of_dialect(dialect: Dialect) -> Flags
     ensures { flags_of result ≡ only (flag_of_dialect (dialect_of dialect)) }
@@ -238,8 +267,9 @@ fn flag_of_dialect(dialect: Dialect) -> Flags
     }
 }
 
-/// The flags of a trial: the process has the one without which the specification isn't looked at.
-fn spec_test_flags(dialect: Dialect, self_pid: u32) -> FlagTable
+/// The flags of a test: the process has the one without which the specification isn't looked at, and no process has
+/// another.
+pub fn spec_test_flags(dialect: Dialect, self_pid: u32) -> FlagTable
     ensures { table_of result ≡ spec_test_flags (dialect_of dialect) self_pid }
 {
     let mut table = FlagTable::none();
@@ -259,20 +289,18 @@ pub fn answer<A: Allocator + Copy>(
 ) -> Result<Vec<u8, A>, SpecTestFault<A>>
     ensures { MatchResult result (λ text. IsAnswerTo question.now text.items) (λ fault. IsNoAnswer question.now fault) }
 {
-    let list = list_of(alloc, question.list)?;
-    let caller = caller_of(alloc, question.caller)?;
-    let spec = specification(alloc, question.spec, question.dialect)?;
+    let terms = terms_of(alloc, question)?;
     let alive = Alive::first(PROCESSES);
     let flags = spec_test_flags(question.dialect, question.self_pid);
     let context = Context {
-        list: ListView::Terms(&list),
+        list: ListView::Terms(&terms.list),
         self_pid: question.self_pid,
-        caller: caller.as_ref(),
+        caller: terms.caller.as_ref(),
         alive: &alive,
         flags: &flags,
     };
     let mut text = Vec::new(alloc);
-    match put_spec_test(alloc, &spec, &context, &mut text) {
+    match put_spec_test(alloc, &terms.spec, &context, &mut text) {
         Ok(()) => Ok(text),
         Err(_) => Err(SpecTestFault::OutOfMemory),
     }

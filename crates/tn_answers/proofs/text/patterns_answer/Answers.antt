@@ -1,6 +1,7 @@
 use Rattle.std.proofs.Common.{◌∙◌, map, refl}
 use Rattle.std.proofs.lemmas.Result.{IfOk-weaker}
 use Rattle.def_compare.specs.Answers.{about_patterns}
+use Rattle.def_compare.specs.AnswerRows.{plain_answer}
 use Rattle.def_explore.specs.Words.{refutes}
 use Rattle.tn_explore.specs.Searches.{answer_entries}
 use Rattle.tn_message_pattern.specs.Questions.{pattern_question_seen}
@@ -27,7 +28,7 @@ returns g c =
     let es = answer_entries (kept_seen {A = g.row.A.Denot}) e.answers.entries in
     let ss = c.args.sessions.now in
     let qs = c.args.questions.now in
-    IfOk-weaker c.words_answer.result (IsWordsAnswer ss qs e) (IsSearchAnswer ss (about_patterns (map pattern_question_seen qs)) e)
+    IfOk-weaker c.words_answer.result (IsWordsAnswer ss qs e) (IsSearchAnswer plain_answer ss (about_patterns (map pattern_question_seen qs)) e)
     (λ a h. record {
       text = h.text ∙ some_questions pattern_question_seen qs (map session_name_seen ss) es e.states e.is_complete c.if-is_empty.ensures;
       unmet = h.unmet;

@@ -1,7 +1,8 @@
+use Rattle.std.specs.Option.{option_map}
 use Rattle.def_explain.specs.Texts.{condition_reason_text}
 use Rattle.tn_verdict.specs.Views.{condition_seen}
 use Rattle.tn_verdict.proofs.Pieces.{put_ok}
-use Rattle.tn_fun_words.specs.Views.{line_words_seen}
+use Rattle.tn_fun_words.specs.Views.{clause_words_seen}
 use Rattle.tn_fun_words.proofs.Reasons.{after_number, condition_ok}
 use Rattle.tn_fun_words.proofs.reason.put_condition_reason.Goals as goal
 
@@ -9,7 +10,7 @@ pub returns : goal.returns
 returns g c =
     let done = c.extend_from_slice.result in
     let r = condition_seen c.args.why in
-    condition_ok done (line_words_seen c.args.words) c.args.index r c.args.out.now.items c.put_condition_words.new.out.items c.extend_from_slice.new.self.items c.after_front.result.now
+    condition_ok done (option_map clause_words_seen c.args.words) c.args.index r c.args.out.now.items c.put_condition_words.new.out.items c.extend_from_slice.new.self.items c.after_front.result.now
     c.in_ok-put_condition_words.ensures
     (c.after_front.ensures (condition_reason_text r)
     (after_number c.args.index r c.deref.result.now c.deref-2.result.now c.put_reason.new.out.items c.put_plain_condition.new.out.items c.new-whole.result.items c.new-front.result.items

@@ -12,4 +12,6 @@ returns c =
     let third = one_more name _ (codes "control") c.in_ok-arg-2.field-0 c.in_ok-arg-3.field-0 c.in_ok-first_control.field-0 second c.in_ok-first_control.ensures.0 c.in_ok-arg-3.ensures in
     let fourth = one_more name _ (codes "order") c.in_ok-arg-3.field-0 c.in_ok-arg-4.field-0 c.listing_order.result third c.listing_order.ensures.named.0
     c.in_ok-arg-4.ensures in
-    one_more_so name _ (codes "session") c.in_ok-arg-4.field-0 c.one_session.result c.arg-5.result fourth c.one_session.ensures.0 c.arg-5.ensures
+    let fifth = one_more name _ (codes "session") c.in_ok-arg-4.field-0 c.in_ok-arg-5.field-0 c.one_session.result fourth c.one_session.ensures.0
+    c.in_ok-arg-5.ensures in
+    one_more_so name _ (codes "json") c.in_ok-arg-5.field-0 c.json.result c.arg-6.result fifth c.json.ensures.0 c.arg-6.ensures

@@ -1,5 +1,5 @@
 use Rattle.std.proofs.Common.{◌∙◌, [], ◌∷◌, map}
-use Rattle.def_renaming.specs.Renaming.{with_beginning_pairs}
+use Rattle.def_renaming.specs.Renaming.{with_prefix_pairs}
 use Rattle.tn_renaming.specs.Pairs.{first_from, pair_seen, pairs_seen, lent_term_seen, lent_terms_seen}
 use Rattle.tn_renaming.proofs.Searches.{found_here, given_by, no_more_lists, not_begun, passed_here, rest_goes_on, taken_back}
 use Rattle.tn_renaming.proofs.search.+search.Goals as goal
@@ -9,7 +9,7 @@ extend_by_list-returns-then-not-found g t c =
     let groups = map (lent_terms_seen {A = g.row.B.Denot} {B = g.row.A.Denot}) c.args.rest.now in
     let lists = map (lent_terms_seen {A = g.row.C.Denot} {B = g.row.A.Denot}) c.args.lists.now in
     let old = pairs_seen c.args.pairs.now in
-    let given = with_beginning_pairs old (map (lent_term_seen {A = g.row.B.Denot}) c.args.group.now) (map (lent_term_seen {A = g.row.C.Denot}) c.args.list.now) in
+    let given = with_prefix_pairs old (map (lent_term_seen {A = g.row.B.Denot}) c.args.group.now) (map (lent_term_seen {A = g.row.C.Denot}) c.args.list.now) in
     not_begun groups lists old (pairs_seen c.match_beginning.new.pairs) given c.in_ok-found.found c.if-not-found.true c.in_ok-found.ensures
 
 pub extend_by_list-returns : goal.extend_by_list-returns
@@ -17,7 +17,7 @@ extend_by_list-returns g t c =
     let groups = map (lent_terms_seen {A = g.row.B.Denot} {B = g.row.A.Denot}) c.args.rest.now in
     let lists = map (lent_terms_seen {A = g.row.C.Denot} {B = g.row.A.Denot}) c.args.lists.now in
     let old = pairs_seen c.args.pairs.now in
-    let given = with_beginning_pairs old (map (lent_term_seen {A = g.row.B.Denot}) c.args.group.now) (map (lent_term_seen {A = g.row.C.Denot}) c.args.list.now) in
+    let given = with_prefix_pairs old (map (lent_term_seen {A = g.row.B.Denot}) c.args.group.now) (map (lent_term_seen {A = g.row.C.Denot}) c.args.list.now) in
     rest_goes_on c.extend_pairs.result groups lists old (pairs_seen c.match_beginning.new.pairs) (pairs_seen c.extend_pairs.new.pairs) given c.in_ok-found.found c.if-not-found.false c.in_ok-found.ensures c.extend_pairs.ensures
 
 pub extend_pairs-returns-then-found : goal.extend_pairs-returns-then-found

@@ -1,5 +1,5 @@
 use Rattle.std.proofs.Common.{◌+◌, false, drop, map, arith}
-use Rattle.def_renaming.specs.Renaming.{with_term_pairs, with_beginning_pairs}
+use Rattle.def_renaming.specs.Renaming.{with_term_pairs, with_prefix_pairs}
 use Rattle.tn_renaming.specs.Pairs.{pairs_seen, lent_term_seen}
 use Rattle.tn_renaming.proofs.Matches.{leaf, goes_on, stops, begun_here, too_short}
 use Rattle.tn_renaming.proofs.terms.match_beginning.Goals as goal
@@ -11,7 +11,7 @@ returns-then-here-there g c =
     let ys = c.args.here.now in
     let f = lent_term_seen {A = g.row.B.Denot} in
     let h = lent_term_seen {A = g.row.C.Denot} in
-    leaf old (with_beginning_pairs old (map f xs) (map h ys)) false (too_short f h xs ys old (omega arith))
+    leaf old (with_prefix_pairs old (map f xs) (map h ys)) false (too_short f h xs ys old (omega arith))
 
 pub returns-then-not-found : goal.returns-then-not-found
 returns-then-not-found g c =
@@ -24,8 +24,8 @@ returns-then-not-found g c =
     let now = pairs_seen l.pairs in
     let f = lent_term_seen {A = g.row.B.Denot} in
     let h = lent_term_seen {A = g.row.C.Denot} in
-    stops old (with_beginning_pairs old (map f xs) (map h ys)) now (pairs_seen c.match_term.new.pairs) (with_beginning_pairs now (map f (drop l.i xs)) (map h (drop l.i ys)))
-    (λ qs. with_beginning_pairs qs (map f (drop (l.i + 1) xs)) (map h (drop (l.i + 1) ys))) (with_term_pairs now (f x) (h y)) c.in_ok-found.found
+    stops old (with_prefix_pairs old (map f xs) (map h ys)) now (pairs_seen c.match_term.new.pairs) (with_prefix_pairs now (map f (drop l.i xs)) (map h (drop l.i ys)))
+    (λ qs. with_prefix_pairs qs (map f (drop (l.i + 1) xs)) (map h (drop (l.i + 1) ys))) (with_term_pairs now (f x) (h y)) c.in_ok-found.found
     c.if-not-found.true (begun_here f h xs ys l.i x y now (omega arith) (omega arith) c.index-there-i.is c.index-here-i.is) c.in_ok-found.ensures l.invariant.on
 
 pub loop-i-preserved : goal.loop-i-preserved
@@ -41,7 +41,7 @@ loop-i-preserved g c =
     let h = lent_term_seen {A = g.row.C.Denot} in
     record {
       lengths = l.invariant.lengths;
-      on = goes_on old (with_beginning_pairs old (map f xs) (map h ys)) now (pairs_seen c.match_term.new.pairs) (with_beginning_pairs now (map f (drop l.i xs)) (map h (drop l.i ys)))
-          (λ qs. with_beginning_pairs qs (map f (drop (l.i + 1) xs)) (map h (drop (l.i + 1) ys))) (with_term_pairs now (f x) (h y)) c.in_ok-found.found
+      on = goes_on old (with_prefix_pairs old (map f xs) (map h ys)) now (pairs_seen c.match_term.new.pairs) (with_prefix_pairs now (map f (drop l.i xs)) (map h (drop l.i ys)))
+          (λ qs. with_prefix_pairs qs (map f (drop (l.i + 1) xs)) (map h (drop (l.i + 1) ys))) (with_term_pairs now (f x) (h y)) c.in_ok-found.found
           c.if-not-found.false (begun_here f h xs ys l.i x y now (omega arith) (omega arith) c.index-there-i.is c.index-here-i.is) c.in_ok-found.ensures l.invariant.on;
     }

@@ -1,0 +1,98 @@
+-- What a search answers about the sessions at some places.
+-- Depends on searches through all schedules, and on the texts of their answers.
+use Rattle.std.specs.Prelude.{◌≡◌, ℕ, Bool, true, false, List, Option, Some, None}
+use Rattle.std.specs.Option.{option_map}
+use Rattle.def_term.specs.Names.{Name}
+use Rattle.def_script.specs.Program.{Program}
+use Rattle.def_explore.specs.Answers.{RestEntry}
+use Rattle.def_compare.specs.Traces.{TraceQuestion, begins_trace}
+use Rattle.def_compare.specs.Entries.{Match, possible_by}
+use Rattle.def_compare.specs.Answers.{SearchQuestion, about_trace, admits_for, is_settled, is_unmet}
+use Rattle.def_compare.specs.AnswerRows.{AnswerForm, answer_in}
+use Rattle.tn_answers.specs.declared.text.SearchAnswer.{SearchAnswer}
+use Rattle.tn_explore.specs.Searches.{Explores}
+use Rattle.tn_search.specs.States.{query_of}
+use Rattle.tn_exploration.specs.declared.in_order.RunInOrder.{RunInOrder}
+
+-- the text of an answer, whether more states could change nothing, and whether a demand is refuted or the trace is impossible
+pub record SearchText : Type 0 where
+  pub text : List ℕ
+  pub settled : Bool
+  pub unmet : Bool
+
+abbrev pub search_text_seen : {A : Type 0} → SearchAnswer A → SearchText
+search_text_seen a = record { text = a.text.items; settled = a.is_settled; unmet = a.is_unmet }
+
+-- that of a search through all schedules that begin with a journal
+pub record IsTextOfSearch (form : AnswerForm) (ss : List (Name × Name)) (q : SearchQuestion) (b : Bool) (p : Program) (before places : List ℕ) (max_states : ℕ) (t : SearchText) : Type 0 where
+  pub entries : List RestEntry
+  pub states : ℕ
+  pub whole : Bool
+  pub search : Explores (query_of (admits_for q) b p before places) entries max_states states whole
+  pub written : t ≡ record { text = answer_in form ss q entries states whole; settled = is_settled q entries whole; unmet = is_unmet q entries whole }
+
+-- ---- a run that shows a trace in its own order
+
+-- the first entry of a search in total order that shows the trace, and how many states were met
+pub record IsSearchInOrder (a : TraceQuestion) (p : Program) (before places : List ℕ) (max_states : ℕ) (found : Option Match) (states : ℕ) : Type 0 where
+  pub entries : List RestEntry
+  pub whole : Bool
+  pub search : Explores (query_of (begins_trace a.messages) false p before places) entries max_states states whole
+  pub first : found ≡ possible_by a entries
+
+-- a journal, and how many states were met before it was found
+abbrev pub run_in_order_seen : {A : Type 0} → RunInOrder A → List ℕ × ℕ
+run_in_order_seen r = (r.journal.items, r.states)
+
+-- the journal of that entry, where there is one
+abbrev pub IsRunInOrder : TraceQuestion → Program → (before places : List ℕ) → ℕ → Option (List ℕ × ℕ) → Type 0
+IsRunInOrder a p before places max_states o =
+    (found : Option Match) × (states : ℕ) × IsSearchInOrder a p before places max_states found states × (o ≡ option_map (λ m. (m.entry.journal, states)) found)
+
+-- the text, where there is an entry that shows the trace
+abbrev pub text_by_match : List ℕ → Option Match → Option SearchText
+text_by_match text None = None
+text_by_match text (Some m) = Some (record { text = text; settled = true; unmet = false })
+
+-- that of the entries
+abbrev pub text_with_run : AnswerForm → List (Name × Name) → TraceQuestion → List RestEntry → ℕ → Bool → Option SearchText
+text_with_run form ss a es states whole = text_by_match (answer_in form ss (about_trace a) es states whole) (possible_by a es)
+
+-- the entries of a search by process that goes on from the journal, with their text
+pub record IsTextAfter (form : AnswerForm) (ss : List (Name × Name)) (a : TraceQuestion) (p : Program) (places : List ℕ) (max_states : ℕ) (run : List ℕ × ℕ) (o : Option SearchText) : Type 0 where
+  pub entries : List RestEntry
+  pub states : ℕ
+  pub whole : Bool
+  pub search : Explores (query_of (begins_trace a.messages) true p run.0 places) entries max_states states whole
+  pub written : o ≡ text_with_run form ss a entries run.1 false
+
+-- that after a run; without one there is none
+abbrev pub IsTextAfterRun : AnswerForm → List (Name × Name) → TraceQuestion → Program → List ℕ → ℕ → Option (List ℕ × ℕ) → Option SearchText → Type 0
+IsTextAfterRun form ss a p places max_states None o = o ≡ None
+IsTextAfterRun form ss a p places max_states (Some run) o = IsTextAfter form ss a p places max_states run o
+
+-- the text of a run that shows the trace by process, found by its own order
+abbrev pub IsTextInOrder : AnswerForm → List (Name × Name) → TraceQuestion → Program → (before places : List ℕ) → ℕ → Option SearchText → Type 0
+IsTextInOrder form ss a p before places max_states o =
+    (run : Option (List ℕ × ℕ)) × IsRunInOrder a p before places max_states run × IsTextAfterRun form ss a p places max_states run o
+
+-- ---- the answer
+
+-- the trace of a question, where the messages of a process alone are in an order
+abbrev pub trace_by_process : SearchQuestion → Bool → Option TraceQuestion
+trace_by_process (about_trace a) true = Some a
+trace_by_process q b = None
+
+-- such a run is looked for first
+abbrev pub IsTextBefore : AnswerForm → List (Name × Name) → Program → (before places : List ℕ) → ℕ → Option TraceQuestion → Option SearchText → Type 0
+IsTextBefore form ss p before places max_states None o = o ≡ None
+IsTextBefore form ss p before places max_states (Some a) o = IsTextInOrder form ss a p before places max_states o
+
+-- where there is none, the search goes through all schedules in the order that is asked for
+abbrev pub IsTextElse : AnswerForm → List (Name × Name) → SearchQuestion → Bool → Program → (before places : List ℕ) → ℕ → Option SearchText → SearchText → Type 0
+IsTextElse form ss q b p before places max_states (Some u) t = t ≡ u
+IsTextElse form ss q b p before places max_states None t = IsTextOfSearch form ss q b p before places max_states t
+
+abbrev pub IsAnswerText : AnswerForm → List (Name × Name) → SearchQuestion → Bool → Program → (before places : List ℕ) → ℕ → SearchText → Type 0
+IsAnswerText form ss q b p before places max_states t =
+    (o : Option SearchText) × IsTextBefore form ss p before places max_states (trace_by_process q b) o × IsTextElse form ss q b p before places max_states o t

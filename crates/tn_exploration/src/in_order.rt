@@ -1,0 +1,121 @@
+// A run that shows a trace by process, found by the trace's own order.
+ghost use Rattle.std.specs.Prelude.{◌≡◌, ◌&&◌, IfOk, map, not};
+ghost use Rattle.std.specs.Option.{option_map};
+ghost use Rattle.tn_program.specs.Views.{program_of};
+ghost use Rattle.tn_answers.specs.AnswerViews.{session_name_seen};
+ghost use Rattle.tn_comparison.specs.Matches.{trace_question_seen};
+ghost use Rattle.tn_answers.specs.SearchAnswers.{form_seen};
+ghost use Rattle.tn_explore.specs.Searches.{answer_entries};
+ghost use Rattle.tn_messages.specs.MessageViews.{kept_seen};
+ghost use Rattle.tn_exploration.specs.Searches.{IsRunInOrder, IsTextInOrder};
+ghost use Rattle.tn_exploration.specs.Searches.{run_in_order_seen, search_text_seen, text_with_run};
+
+use std::alloc::{AllocError, Allocator, Global};
+use tn_answers::{AnswerForm, SearchAnswer, SearchQuestion, SessionName, search_answer};
+use tn_comparison::{TraceQuestion, possible_by};
+use tn_explore::Exploration;
+use tn_messages::KeptListings;
+use tn_program::Program;
+use tn_search::{ListingOrder, SearchPlan, explore_program};
+
+/// A run whose messages are in the order of a trace.
+#[derive(Drop)]
+pub(crate) struct RunInOrder<A: Allocator> {
+    /// Its picks.
+    journal: Vec<u32, A>,
+    /// How many states were met before it was found.
+    states: usize,
+}
+
+/// The first run that shows the trace in its own order, by a search in total order.
+fn run_in_order<A: Allocator + Copy>(
+    alloc: A,
+    program: &Program<A>,
+    trace: &TraceQuestion<Global>,
+    plan: &SearchPlan<'_>,
+) -> Result<Option<RunInOrder<A>>, AllocError>
+    ensures { let a = trace_question_seen trace.now in let p = program_of program.now in IfOk result (λ o.
+        IsRunInOrder a p plan.now.before.now plan.now.places.now plan.now.max_states (option_map run_in_order_seen o)) }
+{
+    let plan = SearchPlan {
+        before: plan.before,
+        order: ListingOrder::Total,
+        places: plan.places,
+        max_states: plan.max_states,
+    };
+    let exploration = explore_program(alloc, program, trace, &plan)?;
+    let Some(found) = possible_by(alloc, trace, &exploration.answers)? else {
+        return Ok(None);
+    };
+    let mut journal = Vec::new(alloc);
+    journal.extend_from_slice(found.journal)?;
+    Ok(Some(RunInOrder {
+        journal,
+        states: exploration.states,
+    }))
+}
+
+/// Whether an answer has a run that shows its trace.
+fn has_run<A: Allocator>(answer: &SearchAnswer<A>) -> bool
+    ensures { result ≡ (answer.now.is_settled && not answer.now.is_unmet) }
+{
+    answer.is_settled && !answer.is_unmet
+}
+
+/// What an exploration answers, where one of its runs shows the trace.
+fn answer_with_run<A: Allocator + Copy>(
+    alloc: A,
+    names: &[SessionName<A>],
+    trace: &TraceQuestion<Global>,
+    exploration: &Exploration<A, KeptListings<A>>,
+    form: AnswerForm,
+) -> Result<Option<SearchAnswer<A>>, AllocError>
+    ensures { let e = exploration.now in let es = answer_entries kept_seen e.answers.entries in
+        let ss = map session_name_seen names.now in IfOk result (λ o. option_map search_text_seen o ≡
+        text_with_run (form_seen form) ss (trace_question_seen trace.now) es e.states e.is_complete) }
+{
+    let answer = search_answer(
+        alloc,
+        names,
+        &SearchQuestion::Trace(trace),
+        exploration,
+        form,
+    )?;
+    if has_run(&answer) {
+        Ok(Some(answer))
+    } else {
+        Ok(None)
+    }
+}
+
+/// The answer of a run that shows the trace by process, found by the trace's own order; None where there is none. It
+/// has how many states were met before the run was found.
+pub(crate) fn answer_in_order<A: Allocator + Copy>(
+    alloc: A,
+    program: &Program<A>,
+    names: &[SessionName<A>],
+    trace: &TraceQuestion<Global>,
+    plan: &SearchPlan<'_>,
+    form: AnswerForm,
+) -> Result<Option<SearchAnswer<A>>, AllocError>
+    ensures { let a = trace_question_seen trace.now in let p = program_of program.now in
+        let ss = map session_name_seen names.now in IfOk result (λ o. IsTextInOrder (form_seen form) ss a p
+        plan.now.before.now plan.now.places.now plan.now.max_states (option_map search_text_seen o)) }
+{
+    let Some(run) = run_in_order(alloc, program, trace, plan)? else {
+        return Ok(None);
+    };
+    let plan = SearchPlan {
+        before: &run.journal,
+        order: ListingOrder::ByProcess,
+        places: plan.places,
+        max_states: plan.max_states,
+    };
+    let after = explore_program(alloc, program, trace, &plan)?;
+    let exploration = Exploration {
+        answers: after.answers,
+        states: run.states,
+        is_complete: false,
+    };
+    answer_with_run(alloc, names, trace, &exploration, form)
+}
