@@ -1,6 +1,7 @@
 """Cases of comparisons: traces as a node could print them, with pids of its own and in another order, and traces that no
 run shows. What is expected is found by an independent comparison with the listings that an exploration writes.
 """
+import itertools
 import json
 import random
 import re
@@ -311,6 +312,34 @@ def possible_runs():
             ours = [PID.sub(lambda found: f"<0.{pids[found[1]]}.0>", line) for line in trace]
             by_process = lambda messages: sorted(messages, key=process_of)
             check(f"the run of a trace of {name}", by_process(ours) == by_process(lines), (ours, lines))
+
+
+# What a node prints in the place of `[]` in `{trace,_,exit,{{bad_header,7},[]}}`, and whether it is read as that.
+STACK_TRACES = (
+    ("[]", True),
+    ("[{worker,parse,1,[]}]", True),
+    ("[{worker,parse,[7],[{file,\"w.erl\"},{line,9}]},{worker,load,1,[]}]", True),
+    ("[{erlang,hd,[[]],[{error_info,#{module => erl_erts_errors}}]},{worker,parse,1,[]}]", True),
+    ("[{m,f,1,[{error_info, #{cause => {'}',#{}}, function => g}}]}]", True),
+    ("[{m,f,1,[{location,#{line => 1}}]}]", False),
+    ("[{m,f,1,[{error_info,#{module => m}]}]", False),
+    ("#{}", False),
+)
+
+
+def stack_traces():
+    """A stack trace is `[]`, with a map that says more of an error in it or without; any other map is no term."""
+    script = script_of("exceptions")
+    lines = listing(script, "0 0 0 0 0 0 100 100 100 100")
+    trace = list(itertools.takewhile(lambda line: not line.startswith("== "), lines))
+    for stack, is_read in STACK_TRACES:
+        text = "\n".join([*trace[:-1], trace[-1].replace("[]", stack)])
+        ran = compare(script, text, ["--control", "first", "--session", "returns"])
+        if is_read:
+            good = ran.returncode == 0 and b"possible: journal" in ran.stdout
+        else:
+            good = ran.returncode == 2 and not ran.stdout and b"it spells no term" in ran.stderr
+        check(f"compare with the stack trace {stack}", good, ran)
 
 
 # Texts that are no traces: the line, and why.

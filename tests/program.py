@@ -86,6 +86,7 @@ SUBJECTS = {
     "comparison": (
         comparison_cases.comparisons,
         comparison_cases.possible_runs,
+        comparison_cases.stack_traces,
         comparison_cases.bad_traces,
         comparison_cases.comparison_json,
     ),

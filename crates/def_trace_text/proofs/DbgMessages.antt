@@ -13,6 +13,8 @@ use Rattle.def_trace_text.specs.Lines.{without_blanks}
 use Rattle.def_trace_text.specs.DbgFormats.{DbgFormat, word_formats, send_format, pair_format, single_format, dbg_formats, other_kinds, first_format, text_by_format, with_parts, with_term_texts}
 use Rattle.def_trace_text.specs.DbgLines.{is_dbg_line, trace_line_text}
 use Rattle.def_trace_text.specs.TraceLaws.{HasLastTerm, IsReadAs}
+use Rattle.def_trace_text.specs.ErrorMaps.{without_error_maps}
+use Rattle.def_trace_text.proofs.ErrorMaps.{left}
 use Rattle.def_trace_text.proofs.DbgTexts.{AreWritable, with_digit, with_literal, IsRead, is_sound, each_read}
 use Rattle.def_trace_text.proofs.FirstFormats.{place, IsFirst, words_first, send_first, KindIsFirst, kinds_first}
 use Rattle.std.specs.List.{All, list_all}
@@ -128,7 +130,9 @@ of_format : (line : List ℕ) (f : DbgFormat) → is_dbg_line line ≡ true → 
 of_format line f dbg whole first = rw dbg (ap (λ l. text_by_format (first_format dbg_formats l) l) whole ∙ ap (λ o. text_by_format o line) first)
 
 message_read : (terms : ℕ → Trees) (f : DbgFormat) → IsFirst terms f → IsRead terms f → IsLine terms f → IsReadAs terms f
-message_read terms f first read line some = of_format (with_term_texts f.printed terms) f line.dbg (nothing_off (with_term_texts f.printed terms) (line.solid some)) first ∙ read.1
+message_read terms f first read line some =
+    ap without_error_maps (of_format (with_term_texts f.printed terms) f line.dbg (nothing_off (with_term_texts f.printed terms) (line.solid some)) first ∙ read.1)
+    ∙ left (with_term_texts f.message terms) read.2
 
 all_read : (terms : ℕ → Trees) (fs : List DbgFormat) → All (IsFirst terms) fs → All (IsRead terms) fs → All (IsLine terms) fs → All (IsReadAs terms) fs
 all_read terms [] a b c = All-nil (IsReadAs terms)

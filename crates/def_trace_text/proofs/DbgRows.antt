@@ -1,6 +1,7 @@
 -- Rows: lines as `dbg` of OTP 27 printed them, and the texts of their messages.
 use Rattle.std.proofs.Common.{◌≡◌, List, ℕ, [], ◌∷◌, codes, refl}
 use Rattle.def_trace_text.specs.DbgLines.{whole_text_lines, trace_line_text}
+use Rattle.def_trace_text.specs.ErrorMaps.{message_text}
 
 -- the text of the message that a line stands for
 abbrev Reads : (line text : List ℕ) → Type 0
@@ -106,3 +107,30 @@ broken_exit = refl
 
 pub broken_exception : Reads (codes "(<0.85.0>) exception_from {m,f,1} {error,\n {badmatch,' ]'}}") (codes "{trace,<0.85.0>,exception_from,{m,f,1},{error,\n {badmatch,' ]'}}}")
 broken_exception = refl
+
+-- ---- maps of errors
+
+-- the text of the message of a line with the map of an error
+abbrev ReadsWithout : (line text : List ℕ) → Type 0
+ReadsWithout line text = message_text line ≡ text
+
+-- `hd([])` in a process that is traced, as a node of OTP 27 printed it
+pub error_of_bif :
+    ReadsWithout (codes "{trace,<0.88.0>,exit,{badarg,[{erlang,hd,[[]],[{error_info,#{module => erl_erts_errors}}]},{t,f,1,[]}]}}.")
+    (codes "{trace,<0.88.0>,exit,{badarg,[{erlang,hd,[[]],[{error_info,[]}]},{t,f,1,[]}]}}")
+error_of_bif = refl
+
+-- a map in the map, with brackets and quotes in it, and blanks before it
+pub map_in_map : ReadsWithout (codes "{error_info,\n #{cause => #{'}' => [{1}]},module => m}}") (codes "{error_info,[]}")
+map_in_map = refl
+
+-- in quotes it is no map; and another map stays, so that no term is spelled
+pub map_in_quotes : ReadsWithout (codes "{trace,<0.88.0>,send,'{error_info,#{}}',<0.89.0>}") (codes "{trace,<0.88.0>,send,'{error_info,#{}}',<0.89.0>}")
+map_in_quotes = refl
+
+pub other_map : ReadsWithout (codes "{trace,<0.88.0>,send,#{a => 1},<0.89.0>}") (codes "{trace,<0.88.0>,send,#{a => 1},<0.89.0>}")
+other_map = refl
+
+-- a map that doesn't end takes the rest of the line with it, and no term is spelled
+pub open_map : ReadsWithout (codes "{error_info,#{module => m}") (codes "{error_info,[]")
+open_map = refl

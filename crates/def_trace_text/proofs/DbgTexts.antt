@@ -9,6 +9,8 @@ use Rattle.def_term.specs.Tree.{Trees}
 use Rattle.def_term.specs.Text.{is_digit, comma_list}
 use Rattle.def_text.specs.Writable.{are_writable}
 use Rattle.def_trace_text.specs.DbgFormats.{DbgFormat, begins_with_byte, part_length, span_length, has_format, part_of_line, with_parts, with_term_texts}
+use Rattle.def_trace_text.specs.ErrorMaps.{has_sign}
+use Rattle.def_trace_text.proofs.SignParts.{is_quiet_format, format_is_quiet}
 use Rattle.def_trace_text.proofs.WrittenParts.{ends_part, written_parts}
 
 abbrev pub AreWritable : (ℕ → Trees) → Type 0
@@ -131,15 +133,19 @@ text_is format (b ∷ text) terms h cuts ok =
 
 -- ---- the formats of `dbg`
 
+-- the line has the format, its text is the message's, and that has no number sign but between quotes
 abbrev pub IsRead : (ℕ → Trees) → DbgFormat → Type 0
-IsRead terms f = (has_format f.printed (with_term_texts f.printed terms) ≡ true) × (with_parts f.message f.printed (with_term_texts f.printed terms) ≡ with_term_texts f.message terms)
+IsRead terms f =
+    (has_format f.printed (with_term_texts f.printed terms) ≡ true) × (with_parts f.message f.printed (with_term_texts f.printed terms) ≡ with_term_texts f.message terms)
+    × (has_sign None false (with_term_texts f.message terms) ≡ false)
 
 abbrev pub is_sound : DbgFormat → Bool
-is_sound f = has_cuts f.printed && has_digits_of f.printed f.message
+is_sound f = has_cuts f.printed && (has_digits_of f.printed f.message && is_quiet_format None false f.message)
 
 pub each_read : (fs : List DbgFormat) (terms : ℕ → Trees) → list_all is_sound fs ≡ true → AreWritable terms → All (IsRead terms) fs
 each_read [] terms h ok = All-nil (IsRead terms)
 each_read (f ∷ fs) terms h ok =
     let p = and_parts (is_sound f) (list_all is_sound fs) h in
-    let q = and_parts (has_cuts f.printed) (has_digits_of f.printed f.message) p.0 in
-    All-cons (IsRead terms) f fs (has_its_format f.printed terms q.0 ok, text_is f.printed f.message terms q.1 q.0 ok) (each_read fs terms p.1 ok)
+    let q = and_parts (has_cuts f.printed) (has_digits_of f.printed f.message && is_quiet_format None false f.message) p.0 in
+    let r = and_parts (has_digits_of f.printed f.message) (is_quiet_format None false f.message) q.1 in
+    All-cons (IsRead terms) f fs (has_its_format f.printed terms q.0 ok, text_is f.printed f.message terms r.0 q.0 ok, format_is_quiet None false f.message terms r.1 ok) (each_read fs terms p.1 ok)

@@ -1,6 +1,8 @@
 pub mod DbgMessages
 pub mod FirstFormats
 pub mod DbgTexts
+pub mod ErrorMaps
+pub mod SignParts
 pub mod WrittenParts
 pub mod WholeLines
 pub mod DbgParts

@@ -1,6 +1,6 @@
 -- The trace messages are those tuples.
 use Rattle.std.proofs.Common.{◌≡◌, ◌↔◌, true, refl, ap, sym, subst}
-use Rattle.def_term.specs.Tree.{Tree, int, atom, pid, tuple, list, Trees, none, more}
+use Rattle.def_term.specs.Tree.{Tree, pid, tuple, more}
 use Rattle.def_term.specs.Names.{word}
 use Rattle.def_term.proofs.Same.{same-is}
 use Rattle.def_trace_text.specs.Messages.{IsTraceMessage, is_trace_message}

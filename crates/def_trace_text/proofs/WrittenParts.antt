@@ -26,10 +26,10 @@ plain_step end d b bs h = search rules
 apart : (p : ℕ → Bool) (b x : ℕ) → p b ≡ true → p x ≡ false → (b == x) ≡ false
 apart p b x h o = ne_eqb b x (λ e. both_ways (p b) (ap p e ∙ o) h)
 
-no_name : (e : ℕ) → ends_part e ≡ true → is_name_byte e ≡ false
+pub no_name : (e : ℕ) → ends_part e ≡ true → is_name_byte e ≡ false
 no_name e h = search rules
 
-name_plain : (e b : ℕ) → ends_part e ≡ true → is_name_byte b ≡ true → is_plain e b ≡ true
+pub name_plain : (e b : ℕ) → ends_part e ≡ true → is_name_byte b ≡ true → is_plain e b ≡ true
 name_plain e b h n =
     rw (apart is_name_byte b e n (no_name e h), apart is_name_byte b 39 n refl, apart is_name_byte b 34 n refl, apart is_name_byte b 123 n refl, apart is_name_byte b 91 n refl, apart is_name_byte b 125 n refl, apart is_name_byte b 93 n refl) refl
 
@@ -39,13 +39,13 @@ digit_name b h = search rules
 pub lower_name : (b : ℕ) → is_lower b ≡ true → is_name_byte b ≡ true
 lower_name b h = search rules
 
-minus_plain : (e : ℕ) → ends_part e ≡ true → is_plain e 45 ≡ true
+pub minus_plain : (e : ℕ) → ends_part e ≡ true → is_plain e 45 ≡ true
 minus_plain e h = search rules
 
-comma_plain : (e : ℕ) → ends_part e ≡ true → is_plain e 44 ≡ true
+pub comma_plain : (e : ℕ) → ends_part e ≡ true → is_plain e 44 ≡ true
 comma_plain e h = search rules
 
-all_plain : (p : ℕ → Bool) (e : ℕ) (u : List ℕ) → ((b : ℕ) → p b ≡ true → is_plain e b ≡ true) → all_are p u ≡ true → all_are (is_plain e) u ≡ true
+pub all_plain : (p : ℕ → Bool) (e : ℕ) (u : List ℕ) → ((b : ℕ) → p b ≡ true → is_plain e b ≡ true) → all_are p u ≡ true → all_are (is_plain e) u ≡ true
 all_plain p e [] f h = refl
 all_plain p e (b ∷ u) f h = let q = and_parts (p b) (all_are p u) h in rw (f b q.0, all_plain p e u f q.1) refl
 
@@ -115,7 +115,7 @@ atom_part e d s h = cond_both (is_written_bare s) s (39 ∷ flat_map escape s ++
 
 -- ---- numbers
 
-digits_plain : (e n : ℕ) → ends_part e ≡ true → n < 2 ^ 64 → all_are (is_plain e) (decimal n) ≡ true
+pub digits_plain : (e n : ℕ) → ends_part e ≡ true → n < 2 ^ 64 → all_are (is_plain e) (decimal n) ≡ true
 digits_plain e n h below =
     let digits = own.from (decimal n) (decimal_is_IsNumeral n below).0.1 in
     all_plain is_digit e (decimal n) (λ b k. name_plain e b h (digit_name b k)) digits
@@ -129,10 +129,10 @@ int_part e d (negsuc n) h ok =
     let below = ltb-true n 9223372036854775808 ok in
     plain_part e d (45 ∷ decimal (suc n)) (rw (minus_plain e h, digits_plain e (suc n) h (omega (arith, below))) refl)
 
-pid_begins : (e : ℕ) → ends_part e ≡ true → all_are (is_plain e) (60 ∷ 48 ∷ 46 ∷ []) ≡ true
+pub pid_begins : (e : ℕ) → ends_part e ≡ true → all_are (is_plain e) (60 ∷ 48 ∷ 46 ∷ []) ≡ true
 pid_begins e h = search rules
 
-pid_ends : (e : ℕ) → ends_part e ≡ true → all_are (is_plain e) (46 ∷ 48 ∷ 62 ∷ []) ≡ true
+pub pid_ends : (e : ℕ) → ends_part e ≡ true → all_are (is_plain e) (46 ∷ 48 ∷ 62 ∷ []) ≡ true
 pid_ends e h = search rules
 
 pid_part : (e d n : ℕ) → ends_part e ≡ true → is_writable (pid n) ≡ true → IsPart e d (w (pid n))

@@ -1,7 +1,7 @@
 -- Which terms are trace messages (the tuples `{trace, Pid, ..}` of `trace:process/4` and of `erlang:trace/3`, "Trace messages").
 -- Depends on terms and their equality.
 use Rattle.std.specs.Prelude.{◌≡◌, ℕ, Bool, false}
-use Rattle.def_term.specs.Tree.{Tree, int, atom, pid, tuple, list, Trees, none, more}
+use Rattle.def_term.specs.Tree.{Tree, pid, tuple, Trees, more}
 use Rattle.def_term.specs.Names.{word}
 use Rattle.def_term.specs.Order.{same}
 

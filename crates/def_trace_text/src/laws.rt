@@ -2,6 +2,7 @@
 ghost use Rattle.def_trace_text.specs.TraceLaws.{LinesAreThere, TermTextIsThere, MessagesAreTuples};
 ghost use Rattle.def_trace_text.specs.TraceLaws.{DbgLineIsNoTerm, DbgLineHasParts, DbgMessageIsRead};
 ghost use Rattle.def_trace_text.specs.TraceLaws.{WholeLinesAreAsMany, OtherLinesAreWhole};
+ghost use Rattle.def_trace_text.specs.TraceLaws.{ErrorMapIsEmpty, OtherTextIsLeft};
 ghost use Rattle.def_trace_text.specs.TraceLaws.{SpelledTraceIsOne, SpelledTraceIsNotRefused, TraceRefusalIsOne};
 ghost use Rattle.def_trace_text.specs.TraceLaws.{TraceOrRefusal};
 
@@ -31,6 +32,12 @@ pub fn a_message_of_dbg_is_read()
 pub fn a_whole_line_keeps_its_number()
     ensures number { WholeLinesAreAsMany }
     ensures others { OtherLinesAreWhole }
+{}
+
+/// The map of an error is read as the empty list, and a text without one stays as it is.
+pub fn a_map_of_an_error_is_empty()
+    ensures map { ErrorMapIsEmpty }
+    ensures others { OtherTextIsLeft }
 {}
 
 /// The trace messages are the tuples of three elements or more with the atom `trace` and a pid first.

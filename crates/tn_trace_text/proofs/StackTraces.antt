@@ -1,10 +1,10 @@
 -- Terms without their stack traces.
-use Rattle.std.proofs.Common.{◌≡◌, ◌≢◌, ◌∙◌, ℕ, ◌+◌, ◌<◌, ◌==◌, Bool, true, false, ◌&&◌, ◌||◌, List, [], ◌∷◌, length, get_or, drop, map, refl, ap, sym, rules, arith}
+use Rattle.std.proofs.Common.{◌≡◌, ◌≢◌, ℕ, ◌+◌, ◌<◌, ◌==◌, Bool, true, false, ◌&&◌, ◌||◌, List, [], ◌∷◌, length, get_or, drop, map, refl, ap, rules, arith}
 use Rattle.def_term.specs.Tree.{Tree, tuple, list, Trees, none, more, of_elements}
 use Rattle.def_trace_text.specs.StackTraces.{is_atom, is_int, is_list, is_stack_entry, are_stack_entries, is_stack, without_stacks, each_without_stacks}
 use Rattle.tn_term.specs.declared.term.Term.{Term}
 use Rattle.tn_term.specs.Views.{tree_of, trees_of}
-use Rattle.tn_term.proofs.Trees.{here, past}
+use Rattle.tn_term.proofs.Trees.{here}
 
 -- ---- entries
 

@@ -2,7 +2,7 @@
 -- Depends on the faults of lines, and on those of the texts of terms.
 use Rattle.std.specs.Prelude.{ℕ, List, Option, Some, None, codes}
 use Rattle.def_text.specs.Faults.{misplaced, too_deep, too_large}
-use Rattle.def_trace_text.specs.TraceTexts.{LineFault, too_long, no_term, no_message}
+use Rattle.def_trace_text.specs.TraceTexts.{LineFault, too_long, no_term}
 use Rattle.tn_text.specs.declared.fault.TextFault.{TextFault}
 use Rattle.tn_text.specs.declared.fault.TextFault.TheVariants as faults
 use Rattle.tn_trace_text.specs.declared.fault.TraceFault.{TraceFault}

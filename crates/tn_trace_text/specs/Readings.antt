@@ -4,7 +4,8 @@ use Rattle.std.specs.Prelude.{◌≡◌, ℕ, List, [], ◌∷◌, ◌++◌, tru
 use Rattle.std.specs.declared.vec.Vec.{Vec}
 use Rattle.def_term.specs.Tree.{Tree}
 use Rattle.def_trace_text.specs.Lines.{is_passed_over}
-use Rattle.def_trace_text.specs.DbgLines.{dbg_text, trace_line_text}
+use Rattle.def_trace_text.specs.DbgLines.{dbg_text}
+use Rattle.def_trace_text.specs.ErrorMaps.{without_error_maps, message_text}
 use Rattle.def_trace_text.specs.Messages.{is_trace_message}
 use Rattle.def_trace_text.specs.StackTraces.{without_stacks}
 use Rattle.def_trace_text.specs.TraceTexts.{IsTraceText, LinesSpell, SpellsTrace, no_message, HasTextFault, IsTraceRefusal}
@@ -24,7 +25,7 @@ IsTextFault text n OutOfMemory = Unit {0}
 
 -- the fault of this line, which has this number
 abbrev pub IsLineFault : List ℕ → ℕ → TraceFault → Type 0
-IsLineFault line n fault = IsTextFault (trace_line_text line) n fault
+IsLineFault line n fault = IsTextFault (message_text line) n fault
 
 -- the message that a term of the line of this number is, or that it is none; refused memory says nothing of it
 abbrev pub IsMessageOfLine : {A : Type 0} → Tree → ℕ → Result (Term A) TraceFault → Type 0
@@ -38,13 +39,17 @@ abbrev pub IsTextRead : {A : Type 0} → List ℕ → ℕ → Result (Term A) Tr
 IsTextRead text n (Ok t) = IsTraceText text (tree_of t)
 IsTextRead text n (Err fault) = IsTextFault text n fault
 
+-- the same of the text without the maps of errors
+abbrev pub IsTextReadWithout : {A : Type 0} → List ℕ → ℕ → Result (Term A) TraceFault → Type 0
+IsTextReadWithout text n r = IsTextRead (without_error_maps text) n r
+
 -- the message that the line of `dbg` stands for, or its fault
 abbrev pub IsDbgLineRead : {A : Type 0} → List ℕ → ℕ → Result (Term A) TraceFault → Type 0
-IsDbgLineRead line n r = IsTextRead (dbg_text line) n r
+IsDbgLineRead line n r = IsTextReadWithout (dbg_text line) n r
 
 -- the message that the line stands for, or its fault
 abbrev pub IsLineRead : {A : Type 0} → List ℕ → ℕ → Result (Term A) TraceFault → Type 0
-IsLineRead line n r = IsTextRead (trace_line_text line) n r
+IsLineRead line n r = IsTextRead (message_text line) n r
 
 -- the message that the line spells comes after these, and where the line is passed over none does
 pub record AddsLine {A : Type 0} (line : List ℕ) (old new : List (Term A)) : Type 0 where

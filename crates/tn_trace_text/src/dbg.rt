@@ -18,7 +18,7 @@ fn is_quote(b: u8) -> bool
 }
 
 /// The quote whose end is to come after this byte.
-fn quote_after(quote: Option<u8>, escaped: bool, b: u8) -> Option<u8>
+pub(crate) fn quote_after(quote: Option<u8>, escaped: bool, b: u8) -> Option<u8>
     ensures { result ≡ quote_after quote escaped b }
 {
     match quote {
@@ -28,7 +28,7 @@ fn quote_after(quote: Option<u8>, escaped: bool, b: u8) -> Option<u8>
 }
 
 /// Whether a byte is a backslash between quotes that is not after another.
-fn escapes_next(quote: Option<u8>, escaped: bool, b: u8) -> bool
+pub(crate) fn escapes_next(quote: Option<u8>, escaped: bool, b: u8) -> bool
     ensures { result ≡ escapes_next quote escaped b }
 {
     quote.is_some() && !escaped && b == b'\\'
@@ -49,7 +49,7 @@ fn closes_term(quote: Option<u8>, b: u8) -> bool
 }
 
 /// How many bytes come before the first one of this kind that is neither between quotes nor in a tuple or list.
-fn part_length(end: u8, line: &[u8]) -> usize
+pub(crate) fn part_length(end: u8, line: &[u8]) -> usize
     ensures value { result ≡ part_length end None false 0 line.now }
     ensures fits { result ≤ length line.now }
 {
@@ -94,7 +94,7 @@ fn front(n: usize, line: &[u8]) -> &[u8]
 }
 
 /// The bytes after so many.
-fn bytes_after(n: usize, line: &[u8]) -> &[u8]
+pub(crate) fn bytes_after(n: usize, line: &[u8]) -> &[u8]
     ensures { result.now ≡ drop n line.now }
 {
     if n < line.len() { &line[n..] } else { b"" }

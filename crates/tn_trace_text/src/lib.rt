@@ -6,6 +6,7 @@
 #![tactic(auto)]
 
 mod dbg;
+mod error_map;
 mod fault;
 mod line;
 mod message;

@@ -4,10 +4,11 @@ ghost use Rattle.def_trace_text.specs.Lines.{trace_text_lines};
 ghost use Rattle.def_trace_text.specs.DbgLines.{further_text, with_further, whole_line};
 ghost use Rattle.tn_term.specs.Views.{tree_of};
 ghost use Rattle.tn_trace_text.specs.Faults.{term_fault_at};
-ghost use Rattle.tn_trace_text.specs.Readings.{IsMessageOfLine, IsTextRead, IsDbgLineRead, IsLineRead};
-ghost use Rattle.tn_trace_text.specs.Readings.{AddsLine, IsContentFault, IsTraceRead};
+ghost use Rattle.tn_trace_text.specs.Readings.{IsMessageOfLine, IsTextRead, IsTextReadWithout};
+ghost use Rattle.tn_trace_text.specs.Readings.{IsDbgLineRead, IsLineRead, AddsLine, IsContentFault, IsTraceRead};
 
 use crate::dbg::is_dbg_line;
+use crate::error_map::{has_number_sign, without_error_maps};
 use crate::fault::TraceFault;
 use crate::line::{first_line, is_passed_over, term_text};
 use crate::message::is_trace_message;
@@ -61,6 +62,23 @@ fn read_text<A: Allocator + Copy>(
     }
 }
 
+/// The trace message that a text spells without the maps of errors in it. The line has this number.
+fn read_without_maps<A: Allocator + Copy>(
+    alloc: A,
+    text: &[u8],
+    number: usize,
+) -> Result<Term<A>, TraceFault>
+    ensures { IsTextReadWithout text.now number result }
+{
+    if !has_number_sign(text) {
+        return read_text(alloc, text, number);
+    }
+    match without_error_maps(alloc, text) {
+        Ok(text) => read_text(alloc, text.as_slice(), number),
+        Err(_) => Err(TraceFault::OutOfMemory),
+    }
+}
+
 /// The trace message that a line of `dbg` stands for with those that go on with it, of the text after it.
 fn read_dbg_line<A: Allocator + Copy>(
     alloc: A,
@@ -71,7 +89,7 @@ fn read_dbg_line<A: Allocator + Copy>(
     ensures { IsDbgLineRead (line.now ++ further_text (trace_text_lines after.now)) number result }
 {
     match whole_text(alloc, line, after) {
-        Ok(text) => read_text(alloc, text.as_slice(), number),
+        Ok(text) => read_without_maps(alloc, text.as_slice(), number),
         Err(_) => Err(TraceFault::OutOfMemory),
     }
 }
@@ -88,7 +106,7 @@ fn read_line<A: Allocator + Copy>(
     if is_dbg_line(line) {
         read_dbg_line(alloc, line, after, number)
     } else {
-        read_text(alloc, term_text(line), number)
+        read_without_maps(alloc, term_text(line), number)
     }
 }
 
@@ -138,9 +156,9 @@ fn add_line<A: Allocator + Copy>(
 /// The trace messages that a text spells, in their order. A line is the text of one, with a full stop at its end or
 /// without, or what `dbg` prints of one; a line after that which begins with a blank goes on with it. A line of blanks
 /// and of a comment alone is passed over. A line ends with a line feed, or with a carriage return and a line feed, and
-/// the last one may lack its end. A stack trace in a message is the empty list. Each byte is read a fixed number of
-/// times at most. Beside the messages it allocates for one line after the other what `read_term` does, and for a
-/// message of `dbg` two copies of its text.
+/// the last one may lack its end. A stack trace in a message is the empty list, and so is the map of an error. Each
+/// byte is read a fixed number of times at most. Beside the messages it allocates for one line after the other what
+/// `read_term` does, for a message of `dbg` two copies of its text, and one for a text with a number sign.
 ///
 /// # Errors
 ///

@@ -1,4 +1,4 @@
-use Rattle.std.proofs.Common.{◌∷◌, ◌+◌, ◌∙◌, ap, sym, take, drop}
+use Rattle.std.proofs.Common.{◌∷◌, ◌+◌, ◌∙◌, ap, sym, drop}
 use Rattle.std.proofs.lemmas.List.{take_rest}
 use Rattle.def_trace_text.specs.Lines.{trace_text_lines}
 use Rattle.tn_trace_text.proofs.FirstLines.{line_alone, line_first}

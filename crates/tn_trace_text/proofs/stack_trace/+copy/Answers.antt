@@ -1,10 +1,10 @@
 use Rattle.std.proofs.Common.{◌≡◌, ◌∙◌, ap, sym, map, take, false, arith, rules}
 use Rattle.std.proofs.lemmas.List.{take_all}
-use Rattle.def_term.specs.Tree.{atom, tuple, list, of_elements}
+use Rattle.def_term.specs.Tree.{tuple, list, of_elements}
 use Rattle.def_trace_text.specs.StackTraces.{is_stack, without_stacks}
 use Rattle.tn_term.specs.Views.{tree_of, trees_of}
 use Rattle.tn_term.proofs.Steps.{made_more}
-use Rattle.tn_term.proofs.Views.{tree_of_atom, tree_of_pid, tree_of_tuple, tree_of_list}
+use Rattle.tn_term.proofs.Views.{tree_of_tuple, tree_of_list}
 use Rattle.tn_trace_text.proofs.StackTraces.{each_seen, list_left}
 use Rattle.tn_trace_text.proofs.stack_trace.+copy.Goals as goal
 
