@@ -1,5 +1,5 @@
 -- A run that shows a trace in its own order shows it by process.
-use Rattle.std.proofs.Common.{◌≡◌, ℕ, List, ◌++◌, ◌∙◌, ap, append_assoc}
+use Rattle.std.proofs.Common.{ℕ, List, ◌++◌, ◌∙◌, ap, append_assoc}
 use Rattle.def_script.specs.Program.{Program}
 use Rattle.def_run.specs.Run.{moves}
 use Rattle.def_explore.specs.Rests.{all_messages, by_process}
@@ -9,7 +9,7 @@ use Rattle.def_compare.specs.InOrder.{RunInOrderShows}
 use Rattle.def_compare.proofs.Matches.{match_is_possible, possible_rests}
 
 -- a journal that goes on from one that goes on from these picks
-journal_after : (p : Program) (before mid journal : List ℕ) → IsJournalFrom p before mid → IsJournalFrom p mid journal → IsJournalFrom p before journal
+pub journal_after : (p : Program) (before mid journal : List ℕ) → IsJournalFrom p before mid → IsJournalFrom p mid journal → IsJournalFrom p before journal
 journal_after p before mid journal one other = record {
   more = one.more ++ other.more;
   goes_on = other.goes_on ∙ ap (λ js. js ++ other.more) (one.moved ∙ one.goes_on) ∙ append_assoc (moves p before) one.more other.more;

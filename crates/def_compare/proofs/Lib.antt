@@ -1,6 +1,6 @@
 mod Pairs
 mod Beginnings
-mod Matches
-mod InOrder
+pub mod Matches
+pub mod InOrder
 mod Prefixes
 mod Rows

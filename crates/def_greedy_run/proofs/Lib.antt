@@ -1,0 +1,2 @@
+pub mod GreedyRuns
+pub mod Rows
