@@ -314,6 +314,43 @@ def possible_runs():
             check(f"the run of a trace of {name}", by_process(ours) == by_process(lines), (ours, lines))
 
 
+def calls(function, lasts):
+    """Steps that call a function of `m` with each of some last arguments."""
+    return ",".join(f"{{call,'_',{{m,{function}}},[{last}]}}" for last in lasts)
+
+
+def busy_script():
+    """Four processes that make 265 calls each, all of which a session traces."""
+    return (
+        f"{{function,m,go,exported,[],[{calls('turn', range(8))}]}}.\n"
+        + f"{{function,m,turn,exported,['N'],[{calls('handle', range(32))}]}}.\n"
+        + "{function,m,handle,exported,['N'],[{return,'N'}]}.\n"
+        + "{process,m,go,[]}.\n" * 4
+        + "{control,[{session_create,s,t,[]},{process,s,all,true,[call]},{function,s,{m,'_','_'},true,[]}]}.\n"
+    ).encode()
+
+
+def busy_lines(pid):
+    """The trace messages of one of them."""
+    turn = lambda n: [("turn", n), *(("handle", last) for last in range(32))]
+    made = [("go", ""), *(call for n in range(8) for call in turn(n))]
+    return [f"{{trace,<0.{pid}.0>,call,{{m,{function},[{last}]}}}}" for function, last in made]
+
+
+def busy_traces():
+    """A trace of a thousand messages of four processes, in any order of these, is possible; one that lacks a message
+    isn't the whole."""
+    chance = random.Random(64)
+    script = busy_script()
+    trace = printed([line for pid in range(100, 104) for line in busy_lines(pid)], False, chance)
+    ran = compare(script, "\n".join(trace), ["--control", "first"])
+    journal = POSSIBLE.search(ran.stdout.decode())
+    good = ran.returncode == 0 and journal and len(trace) == 1060
+    check("compare with a trace of four busy processes", good, ran)
+    lines = listing(script, journal[1])
+    check("the run of four busy processes", begun(groups_of(trace, True), [lines]) is not None, ran)
+
+
 # What a node prints in the place of `[]` in `{trace,_,exit,{{bad_header,7},[]}}`, and whether it is read as that.
 STACK_TRACES = (
     ("[]", True),

@@ -87,6 +87,7 @@ SUBJECTS = {
         comparison_cases.comparisons,
         comparison_cases.possible_runs,
         comparison_cases.stack_traces,
+        comparison_cases.busy_traces,
         comparison_cases.bad_traces,
         comparison_cases.comparison_json,
     ),

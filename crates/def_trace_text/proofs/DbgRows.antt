@@ -1,7 +1,7 @@
 -- Rows: lines as `dbg` of OTP 27 printed them, and the texts of their messages.
 use Rattle.std.proofs.Common.{◌≡◌, List, ℕ, [], ◌∷◌, codes, refl}
 use Rattle.def_trace_text.specs.DbgLines.{whole_text_lines, trace_line_text}
-use Rattle.def_trace_text.specs.ErrorMaps.{message_text}
+use Rattle.def_trace_text.specs.ErrorMaps.{trace_message_text}
 
 -- the text of the message that a line stands for
 abbrev Reads : (line text : List ℕ) → Type 0
@@ -112,7 +112,7 @@ broken_exception = refl
 
 -- the text of the message of a line with the map of an error
 abbrev ReadsWithout : (line text : List ℕ) → Type 0
-ReadsWithout line text = message_text line ≡ text
+ReadsWithout line text = trace_message_text line ≡ text
 
 -- `hd([])` in a process that is traced, as a node of OTP 27 printed it
 pub error_of_bif :

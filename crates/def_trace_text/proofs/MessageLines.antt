@@ -4,7 +4,7 @@ use Rattle.std.specs.List.{AllZip}
 use Rattle.def_term.specs.Tree.{Tree}
 use Rattle.def_text.proofs.One.{one}
 use Rattle.def_trace_text.specs.Lines.{is_passed_over}
-use Rattle.def_trace_text.specs.ErrorMaps.{message_text}
+use Rattle.def_trace_text.specs.ErrorMaps.{trace_message_text}
 use Rattle.def_trace_text.specs.StackTraces.{without_stacks}
 use Rattle.def_trace_text.specs.TraceTexts.{IsTraceLine, lines_with_messages, LinesSpell, SpellsTrace}
 
@@ -39,7 +39,7 @@ message_more line lines t ts e s h = subst (λ b. WithLine b line lines (t ∷ t
 -- ---- one list
 
 same_message : (line : List ℕ) (t u : Tree) → IsTraceLine line t → IsTraceLine line u → t ≡ u
-same_message line t u h g = h.value ∙ ap without_stacks (one (message_text line) h.term g.term h.spelled g.spelled) ∙ sym g.value
+same_message line t u h g = h.value ∙ ap without_stacks (one (trace_message_text line) h.term g.term h.spelled g.spelled) ∙ sym g.value
 
 same_messages : (lines : List (List ℕ)) (ts us : List Tree) → AllZip IsTraceLine lines ts → AllZip IsTraceLine lines us → ts ≡ us
 same_messages [] [] [] h g = refl

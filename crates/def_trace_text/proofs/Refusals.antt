@@ -8,7 +8,7 @@ use Rattle.def_text.proofs.One.{one, refused}
 use Rattle.def_text.proofs.Either.{once, either}
 use Rattle.def_trace_text.specs.Lines.{is_passed_over}
 use Rattle.def_trace_text.specs.DbgLines.{whole_text_lines}
-use Rattle.def_trace_text.specs.ErrorMaps.{message_text}
+use Rattle.def_trace_text.specs.ErrorMaps.{trace_message_text}
 use Rattle.def_trace_text.specs.Messages.{is_trace_message}
 use Rattle.def_trace_text.specs.StackTraces.{without_stacks}
 use Rattle.def_trace_text.specs.TraceTexts.{IsTraceLine, LinesSpell, SpellsTrace, LineFault, too_long, no_term, no_message, HasFault, TraceRefusal, LinesHaveFault, IsTraceRefusal}
@@ -19,15 +19,15 @@ use Rattle.def_trace_text.proofs.MessageLines.{passed, passed_more, read_first, 
 -- a line that spells a message has no fault
 fault_refuses : (line : List ℕ) (t : Tree) (f : LineFault) → IsTraceLine line t → HasFault line f → ⊥
 fault_refuses line t too_long s h = let short = s.spelled.short in omega (arith, short, h)
-fault_refuses line t (no_term kind at) s h = refused (message_text line) s.term kind at s.spelled h
+fault_refuses line t (no_term kind at) s h = refused (trace_message_text line) s.term kind at s.spelled h
 fault_refuses line t no_message s (u, spelled, is) =
-    let same : s.term ≡ u = one (message_text line) s.term u s.spelled spelled in
+    let same : s.term ≡ u = one (trace_message_text line) s.term u s.spelled spelled in
     let yes : is_trace_message u ≡ true = subst (λ x. is_trace_message x ≡ true) same s.is_message in
     cc
 
 same_kind : (line : List ℕ) (kind other : FaultKind) (at there : ℕ) → HasFault line (no_term kind at) → HasFault line (no_term other there) → no_term kind at ≡ no_term other there
 same_kind line kind other at there h g =
-    let is = once (message_text line) kind other at there h g in
+    let is = once (trace_message_text line) kind other at there h g in
     ap (λ k. no_term k at) is.0 ∙ ap (λ n. no_term other n) is.1
 
 -- a line has one fault
@@ -37,9 +37,9 @@ same_fault line too_long (no_term kind at) h k = let short = k.short in absurd (
 same_fault line too_long no_message h (u, spelled, is) = let short = spelled.short in absurd (omega (arith, short, h))
 same_fault line (no_term kind at) too_long h k = let short = h.short in absurd (omega (arith, short, k))
 same_fault line (no_term kind at) (no_term other there) h k = same_kind line kind other at there h k
-same_fault line (no_term kind at) no_message h (u, spelled, is) = absurd (refused (message_text line) u kind at spelled h)
+same_fault line (no_term kind at) no_message h (u, spelled, is) = absurd (refused (trace_message_text line) u kind at spelled h)
 same_fault line no_message too_long (u, spelled, is) k = let short = spelled.short in absurd (omega (arith, short, k))
-same_fault line no_message (no_term kind at) (u, spelled, is) k = absurd (refused (message_text line) u kind at spelled k)
+same_fault line no_message (no_term kind at) (u, spelled, is) k = absurd (refused (trace_message_text line) u kind at spelled k)
 same_fault line no_message no_message h k = refl
 
 -- ---- lines
@@ -104,18 +104,18 @@ one_refusal text r s h k =
 -- ---- messages or a refusal
 
 -- a text of a term spells one or has a fault
-term_or_fault : (line : List ℕ) → ((t : Tree) × Spells (message_text line) t) ⊎ ((f : LineFault) × HasFault line f)
-term_or_fault line = by_length line (cases_lt LENGTH (length (message_text line)))
+term_or_fault : (line : List ℕ) → ((t : Tree) × Spells (trace_message_text line) t) ⊎ ((f : LineFault) × HasFault line f)
+term_or_fault line = by_length line (cases_lt LENGTH (length (trace_message_text line)))
   where
-    refused_kind : ((t : Tree) × Spells (message_text line) t) ⊎ ((kind : FaultKind) × (at : ℕ) × IsRefusedAt (message_text line) kind at) → ((t : Tree) × Spells (message_text line) t) ⊎ ((f : LineFault) × HasFault line f)
+    refused_kind : ((t : Tree) × Spells (trace_message_text line) t) ⊎ ((kind : FaultKind) × (at : ℕ) × IsRefusedAt (trace_message_text line) kind at) → ((t : Tree) × Spells (trace_message_text line) t) ⊎ ((f : LineFault) × HasFault line f)
     refused_kind (inl s) = inl s
     refused_kind (inr (kind, at, h)) = inr (no_term kind at, h)
 
-    by_length : (l : List ℕ) → (LENGTH < length (message_text line)) ⊎ (length (message_text line) ≤ LENGTH) → ((t : Tree) × Spells (message_text line) t) ⊎ ((f : LineFault) × HasFault line f)
+    by_length : (l : List ℕ) → (LENGTH < length (trace_message_text line)) ⊎ (length (trace_message_text line) ≤ LENGTH) → ((t : Tree) × Spells (trace_message_text line) t) ⊎ ((f : LineFault) × HasFault line f)
     by_length l (inl long) = inr (too_long, long)
-    by_length l (inr short) = refused_kind (either (message_text line) short)
+    by_length l (inr short) = refused_kind (either (trace_message_text line) short)
 
-by_message : (b : Bool) (line : List ℕ) (t : Tree) → is_trace_message t ≡ b → Spells (message_text line) t → ((t : Tree) × IsTraceLine line t) ⊎ ((f : LineFault) × HasFault line f)
+by_message : (b : Bool) (line : List ℕ) (t : Tree) → is_trace_message t ≡ b → Spells (trace_message_text line) t → ((t : Tree) × IsTraceLine line t) ⊎ ((f : LineFault) × HasFault line f)
 by_message true line t e s = inl (without_stacks t, record { term = t; spelled = s; is_message = e; value = refl })
 by_message false line t e s = inr (no_message, (t, s, e))
 
@@ -123,7 +123,7 @@ by_message false line t e s = inr (no_message, (t, s, e))
 message_or_fault : (line : List ℕ) → ((t : Tree) × IsTraceLine line t) ⊎ ((f : LineFault) × HasFault line f)
 message_or_fault line = by_term (term_or_fault line)
   where
-    by_term : ((t : Tree) × Spells (message_text line) t) ⊎ ((f : LineFault) × HasFault line f) → ((t : Tree) × IsTraceLine line t) ⊎ ((f : LineFault) × HasFault line f)
+    by_term : ((t : Tree) × Spells (trace_message_text line) t) ⊎ ((f : LineFault) × HasFault line f) → ((t : Tree) × IsTraceLine line t) ⊎ ((f : LineFault) × HasFault line f)
     by_term (inl (t, s)) = by_message (is_trace_message t) line t refl s
     by_term (inr h) = inr h
 

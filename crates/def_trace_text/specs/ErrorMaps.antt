@@ -38,5 +38,5 @@ abbrev pub without_error_maps : List ℕ → List ℕ
 without_error_maps text = without_maps 0 None false text
 
 -- the text of the message that a line of either kind stands for, so
-abbrev pub message_text : List ℕ → List ℕ
-message_text line = without_error_maps (trace_line_text line)
+abbrev pub trace_message_text : List ℕ → List ℕ
+trace_message_text line = without_error_maps (trace_line_text line)

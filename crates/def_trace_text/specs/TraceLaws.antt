@@ -10,7 +10,7 @@ use Rattle.def_text.specs.Writable.{are_writable}
 use Rattle.def_trace_text.specs.Lines.{AreTextLines, trace_text_lines, IsTermText, term_text}
 use Rattle.def_trace_text.specs.DbgFormats.{DbgFormat, word_formats, send_format, pair_format, single_format, dbg_formats, other_kinds, part_length, has_format, with_parts, with_term_texts}
 use Rattle.def_trace_text.specs.DbgLines.{is_dbg_line, whole_text_lines}
-use Rattle.def_trace_text.specs.ErrorMaps.{has_sign, without_error_maps, message_text}
+use Rattle.def_trace_text.specs.ErrorMaps.{has_sign, without_error_maps, trace_message_text}
 use Rattle.def_trace_text.specs.Messages.{IsTraceMessage, is_trace_message}
 use Rattle.def_trace_text.specs.TraceTexts.{SpellsTrace, TraceRefusal, IsTraceRefusal}
 
@@ -38,7 +38,7 @@ HasLastTerm format terms = is_digit (slice_index format (length format - 1)) ≡
 
 -- what `dbg` prints of these terms by a format is read as the text of the message with them
 abbrev pub IsReadAs : (ℕ → Trees) → DbgFormat → Type 0
-IsReadAs terms f = HasLastTerm f.printed terms → message_text (with_term_texts f.printed terms) ≡ with_term_texts f.message terms
+IsReadAs terms f = HasLastTerm f.printed terms → trace_message_text (with_term_texts f.printed terms) ≡ with_term_texts f.message terms
 
 -- so it is by a format with a word of its own; by that of a send, where the digit 2, the byte 50, is a pid; and by those of two terms or one, where it is one of the other kinds
 abbrev pub DbgMessageIsRead : Type 0

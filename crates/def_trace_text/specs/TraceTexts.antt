@@ -7,7 +7,7 @@ use Rattle.def_text.specs.Faults.{FaultKind}
 use Rattle.def_text.specs.Spelling.{LENGTH, Spells, IsRefusedAt}
 use Rattle.def_trace_text.specs.Lines.{is_passed_over}
 use Rattle.def_trace_text.specs.DbgLines.{whole_text_lines}
-use Rattle.def_trace_text.specs.ErrorMaps.{message_text}
+use Rattle.def_trace_text.specs.ErrorMaps.{trace_message_text}
 use Rattle.def_trace_text.specs.Messages.{is_trace_message}
 use Rattle.def_trace_text.specs.StackTraces.{without_stacks}
 
@@ -22,7 +22,7 @@ pub record IsTraceText (text : List ℕ) (t : Tree) : Type 0 where
 
 -- the line stands for this trace message: it is its text, with a full stop or without, or what `dbg` prints of it
 abbrev pub IsTraceLine : List ℕ → Tree → Type 0
-IsTraceLine line t = IsTraceText (message_text line) t
+IsTraceLine line t = IsTraceText (trace_message_text line) t
 
 -- the lines that aren't passed over
 abbrev pub lines_with_messages : List (List ℕ) → List (List ℕ)
@@ -52,7 +52,7 @@ HasTextFault text no_message = (t : Tree) × Spells text t × (is_trace_message 
 
 -- the text of the line's message has it
 abbrev pub HasFault : List ℕ → LineFault → Type 0
-HasFault line fault = HasTextFault (message_text line) fault
+HasFault line fault = HasTextFault (trace_message_text line) fault
 
 -- a line by its number from 1, and its fault
 pub record TraceRefusal : Type 0 where

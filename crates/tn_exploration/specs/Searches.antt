@@ -1,9 +1,10 @@
 -- What a search answers about the sessions at some places.
 -- Depends on searches through all schedules, and on the texts of their answers.
-use Rattle.std.specs.Prelude.{◌≡◌, ℕ, Bool, true, false, List, Option, Some, None}
+use Rattle.std.specs.Prelude.{◌≡◌, ℕ, ◌+◌, ◌-◌, Bool, true, false, List, [], ◌∷◌, length, Option, Some, None}
 use Rattle.std.specs.Option.{option_map}
 use Rattle.def_term.specs.Names.{Name}
 use Rattle.def_script.specs.Program.{Program}
+use Rattle.def_run.specs.Run.{moves}
 use Rattle.def_explore.specs.Answers.{RestEntry}
 use Rattle.def_compare.specs.Traces.{TraceQuestion, begins_trace}
 use Rattle.def_compare.specs.Entries.{Match, possible_by}
@@ -11,6 +12,7 @@ use Rattle.def_compare.specs.Answers.{SearchQuestion, about_trace, admits_for, i
 use Rattle.def_compare.specs.AnswerRows.{AnswerForm, answer_in}
 use Rattle.tn_answers.specs.declared.text.SearchAnswer.{SearchAnswer}
 use Rattle.tn_explore.specs.Searches.{Explores}
+use Rattle.tn_search.specs.GreedyRuns.{greedy_entry}
 use Rattle.tn_search.specs.States.{query_of}
 use Rattle.tn_exploration.specs.declared.in_order.RunInOrder.{RunInOrder}
 
@@ -33,21 +35,35 @@ pub record IsTextOfSearch (form : AnswerForm) (ss : List (Name × Name)) (q : Se
 
 -- ---- a run that shows a trace in its own order
 
--- the first entry of a search in total order that shows the trace, and how many states were met
-pub record IsSearchInOrder (a : TraceQuestion) (p : Program) (before places : List ℕ) (max_states : ℕ) (found : Option Match) (states : ℕ) : Type 0 where
-  pub entries : List RestEntry
-  pub whole : Bool
-  pub search : Explores (query_of (begins_trace a.messages) false p before places) entries max_states states whole
-  pub first : found ≡ possible_by a entries
-
--- a journal, and how many states were met before it was found
+-- a journal, and how many states were met
 abbrev pub run_in_order_seen : {A : Type 0} → RunInOrder A → List ℕ × ℕ
 run_in_order_seen r = (r.journal.items, r.states)
 
--- the journal of that entry, where there is one
+-- the journal of the entry that shows the trace, where there is one, and how many states were met
+abbrev pub run_of_match : Option Match → ℕ → Option (List ℕ × ℕ)
+run_of_match found states = option_map (λ m. (m.entry.journal, states)) found
+
+-- that of the greedy run in total order
+abbrev pub greedy_run_in_order : TraceQuestion → Program → (before places : List ℕ) → ℕ → Option (List ℕ × ℕ)
+greedy_run_in_order a p before places max_states =
+    let e = greedy_entry (begins_trace a.messages) false p before places (max_states - 1) in
+    run_of_match (possible_by a (e ∷ [])) (length e.journal - length (moves p before) + 1)
+
+-- that of the first entry of a search in total order
+pub record IsRunBySearch (a : TraceQuestion) (p : Program) (before places : List ℕ) (max_states : ℕ) (o : Option (List ℕ × ℕ)) : Type 0 where
+  pub entries : List RestEntry
+  pub states : ℕ
+  pub whole : Bool
+  pub search : Explores (query_of (begins_trace a.messages) false p before places) entries max_states states whole
+  pub first : o ≡ run_of_match (possible_by a entries) states
+
+-- where the greedy run doesn't show the trace, a search goes through all schedules
+abbrev pub IsRunElse : TraceQuestion → Program → (before places : List ℕ) → ℕ → Option (List ℕ × ℕ) → Option (List ℕ × ℕ) → Type 0
+IsRunElse a p before places max_states (Some run) o = o ≡ Some run
+IsRunElse a p before places max_states None o = IsRunBySearch a p before places max_states o
+
 abbrev pub IsRunInOrder : TraceQuestion → Program → (before places : List ℕ) → ℕ → Option (List ℕ × ℕ) → Type 0
-IsRunInOrder a p before places max_states o =
-    (found : Option Match) × (states : ℕ) × IsSearchInOrder a p before places max_states found states × (o ≡ option_map (λ m. (m.entry.journal, states)) found)
+IsRunInOrder a p before places max_states o = IsRunElse a p before places max_states (greedy_run_in_order a p before places max_states) o
 
 -- the text, where there is an entry that shows the trace
 abbrev pub text_by_match : List ℕ → Option Match → Option SearchText

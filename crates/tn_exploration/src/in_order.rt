@@ -1,5 +1,5 @@
 // A run that shows a trace by process, found by the trace's own order.
-ghost use Rattle.std.specs.Prelude.{◌≡◌, ◌&&◌, IfOk, map, not};
+ghost use Rattle.std.specs.Prelude.{◌≡◌, ◌&&◌, IfOk, false, map, not};
 ghost use Rattle.std.specs.Option.{option_map};
 ghost use Rattle.tn_program.specs.Views.{program_of};
 ghost use Rattle.tn_answers.specs.AnswerViews.{session_name_seen};
@@ -7,8 +7,10 @@ ghost use Rattle.tn_comparison.specs.Matches.{trace_question_seen};
 ghost use Rattle.tn_answers.specs.SearchAnswers.{form_seen};
 ghost use Rattle.tn_explore.specs.Searches.{answer_entries};
 ghost use Rattle.tn_messages.specs.MessageViews.{kept_seen};
-ghost use Rattle.tn_exploration.specs.Searches.{IsRunInOrder, IsTextInOrder};
-ghost use Rattle.tn_exploration.specs.Searches.{run_in_order_seen, search_text_seen, text_with_run};
+ghost use Rattle.def_compare.specs.Entries.{possible_by};
+ghost use Rattle.tn_exploration.specs.Searches.{IsRunBySearch, IsRunInOrder, IsTextInOrder};
+ghost use Rattle.tn_exploration.specs.Searches.{run_in_order_seen, run_of_match, search_text_seen, text_with_run};
+ghost use Rattle.tn_search.specs.States.{is_by_process};
 
 use std::alloc::{AllocError, Allocator, Global};
 use tn_answers::{AnswerForm, SearchAnswer, SearchQuestion, SessionName, search_answer};
@@ -16,7 +18,7 @@ use tn_comparison::{TraceQuestion, possible_by};
 use tn_explore::Exploration;
 use tn_messages::KeptListings;
 use tn_program::Program;
-use tn_search::{ListingOrder, SearchPlan, explore_program};
+use tn_search::{ListingOrder, SearchPlan, explore_program, greedy_program};
 
 /// A run whose messages are in the order of a trace.
 #[derive(Drop)]
@@ -27,7 +29,43 @@ pub(crate) struct RunInOrder<A: Allocator> {
     states: usize,
 }
 
-/// The first run that shows the trace in its own order, by a search in total order.
+/// The run of the first of some answers that shows the trace.
+fn run_among<A: Allocator + Copy>(
+    alloc: A,
+    trace: &TraceQuestion<Global>,
+    exploration: &Exploration<A, KeptListings<A>>,
+) -> Result<Option<RunInOrder<A>>, AllocError>
+    ensures { let a = trace_question_seen trace.now in let e = exploration.now in
+        let es = answer_entries kept_seen e.answers.entries in
+        IfOk result (λ o. option_map run_in_order_seen o ≡ run_of_match (possible_by a es) e.states) }
+{
+    let Some(found) = possible_by(alloc, trace, &exploration.answers)? else {
+        return Ok(None);
+    };
+    let mut journal = Vec::new(alloc);
+    journal.extend_from_slice(found.journal)?;
+    Ok(Some(RunInOrder {
+        journal,
+        states: exploration.states,
+    }))
+}
+
+/// The first run that a search in total order finds for the trace.
+fn run_by_search<A: Allocator + Copy>(
+    alloc: A,
+    program: &Program<A>,
+    trace: &TraceQuestion<Global>,
+    plan: &SearchPlan<'_>,
+) -> Result<Option<RunInOrder<A>>, AllocError>
+    ensures { let a = trace_question_seen trace.now in let p = program_of program.now in let s = plan.now in
+        is_by_process s.order ≡ false → IfOk result (λ o.
+        IsRunBySearch a p s.before.now s.places.now s.max_states (option_map run_in_order_seen o)) }
+{
+    let exploration = explore_program(alloc, program, trace, plan)?;
+    run_among(alloc, trace, &exploration)
+}
+
+/// The greedy run, where it shows the trace in its own order; else the first run that a search in total order finds.
 fn run_in_order<A: Allocator + Copy>(
     alloc: A,
     program: &Program<A>,
@@ -43,16 +81,12 @@ fn run_in_order<A: Allocator + Copy>(
         places: plan.places,
         max_states: plan.max_states,
     };
-    let exploration = explore_program(alloc, program, trace, &plan)?;
-    let Some(found) = possible_by(alloc, trace, &exploration.answers)? else {
-        return Ok(None);
-    };
-    let mut journal = Vec::new(alloc);
-    journal.extend_from_slice(found.journal)?;
-    Ok(Some(RunInOrder {
-        journal,
-        states: exploration.states,
-    }))
+    let greedy = greedy_program(alloc, program, trace, &plan)?;
+    let run = run_among(alloc, trace, &greedy)?;
+    if run.is_some() {
+        return Ok(run);
+    }
+    run_by_search(alloc, program, trace, &plan)
 }
 
 /// Whether an answer has a run that shows its trace.

@@ -4,3 +4,4 @@ pub mod Places
 pub mod Probes
 pub mod Steps
 pub mod Gathers
+pub mod OnlyEntries

@@ -2,3 +2,4 @@ pub mod Sinks
 pub mod Sessions
 pub mod Probes
 pub mod States
+pub mod GreedyRuns

@@ -37,7 +37,7 @@ pub struct SearchPlan<'a> {
 }
 
 /// The state after some picks, of the sessions at some places.
-fn state_after<A: Allocator + Copy, K: SearchSink<A> + Drop, F: RunFilter<A>>(
+pub(crate) fn state_after<A: Allocator + Copy, K: SearchSink<A> + Drop, F: RunFilter<A>>(
     alloc: A,
     program: &Program<A>,
     before: &[u32],

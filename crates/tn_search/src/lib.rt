@@ -1,11 +1,13 @@
-//! The states of a program's runs, and the search through all of its schedules.
+//! The states of a program's runs, the search through all of its schedules, and its greedy run.
 //!
-//! Depends on tn_explore (the search over whatever keeps a state), tn_trace (runs) and tn_messages (what states keep of
-//! messages, and which runs are followed). Promises that `explore_program` gives sound entries, each of another
-//! listing, and, where the search ends before its limit, complete ones with shortest journals.
+//! Depends on tn_explore (the search over whatever keeps a state), tn_greedy_run, tn_trace (runs) and tn_messages (what
+//! states keep of messages, and which runs are followed). Promises that `explore_program` gives sound entries, each of
+//! another listing, and, where the search ends before its limit, complete ones with shortest journals; and that
+//! `greedy_program` gives the entry of the greedy run.
 #![tactic(auto)]
 
 mod exploration;
+mod greedy;
 mod process_sink;
 mod program_state;
 mod search_sink;
@@ -13,6 +15,7 @@ mod session_states;
 mod total_sink;
 
 pub use exploration::{ListingOrder, SearchPlan, explore_program};
+pub use greedy::greedy_program;
 pub use process_sink::ProcessSink;
 pub use program_state::ProgramState;
 pub use search_sink::SearchSink;

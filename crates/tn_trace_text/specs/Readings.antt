@@ -5,7 +5,7 @@ use Rattle.std.specs.declared.vec.Vec.{Vec}
 use Rattle.def_term.specs.Tree.{Tree}
 use Rattle.def_trace_text.specs.Lines.{is_passed_over}
 use Rattle.def_trace_text.specs.DbgLines.{dbg_text}
-use Rattle.def_trace_text.specs.ErrorMaps.{without_error_maps, message_text}
+use Rattle.def_trace_text.specs.ErrorMaps.{without_error_maps, trace_message_text}
 use Rattle.def_trace_text.specs.Messages.{is_trace_message}
 use Rattle.def_trace_text.specs.StackTraces.{without_stacks}
 use Rattle.def_trace_text.specs.TraceTexts.{IsTraceText, LinesSpell, SpellsTrace, no_message, HasTextFault, IsTraceRefusal}
@@ -25,7 +25,7 @@ IsTextFault text n OutOfMemory = Unit {0}
 
 -- the fault of this line, which has this number
 abbrev pub IsLineFault : List ℕ → ℕ → TraceFault → Type 0
-IsLineFault line n fault = IsTextFault (message_text line) n fault
+IsLineFault line n fault = IsTextFault (trace_message_text line) n fault
 
 -- the message that a term of the line of this number is, or that it is none; refused memory says nothing of it
 abbrev pub IsMessageOfLine : {A : Type 0} → Tree → ℕ → Result (Term A) TraceFault → Type 0
@@ -49,7 +49,7 @@ IsDbgLineRead line n r = IsTextReadWithout (dbg_text line) n r
 
 -- the message that the line stands for, or its fault
 abbrev pub IsLineRead : {A : Type 0} → List ℕ → ℕ → Result (Term A) TraceFault → Type 0
-IsLineRead line n r = IsTextRead (message_text line) n r
+IsLineRead line n r = IsTextRead (trace_message_text line) n r
 
 -- the message that the line spells comes after these, and where the line is passed over none does
 pub record AddsLine {A : Type 0} (line : List ℕ) (old new : List (Term A)) : Type 0 where
