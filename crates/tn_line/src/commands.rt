@@ -14,7 +14,6 @@ use crate::arguments::{
 use crate::compare_command::compare;
 use crate::explore_command::explore;
 use crate::fun_command::fun;
-use crate::serve_command::serve;
 use clap::{ArgGroup, Command};
 use std::alloc::{AllocError, Global};
 
@@ -242,6 +241,5 @@ pub fn command<'a>(alloc: Global) -> Result<Command<'a>, AllocError>
     let command = with_subcommand(command, spec(alloc))?;
     let command = with_subcommand(command, fun(alloc))?;
     let command = with_subcommand(command, explore(alloc))?;
-    let command = with_subcommand(command, compare(alloc))?;
-    with_subcommand(command, serve(alloc))
+    with_subcommand(command, compare(alloc))
 }

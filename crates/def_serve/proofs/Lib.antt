@@ -1,5 +1,0 @@
-mod JsonLines
-mod AnswerLines
-mod AnswerTexts
-mod ReadRequests
-mod RequestRows

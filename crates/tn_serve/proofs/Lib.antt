@@ -1,3 +1,0 @@
-pub mod ReadMembers
-pub mod Outcomes
-pub mod LineReadings

@@ -1,3 +1,0 @@
-pub mod Captures
-pub mod Views
-pub mod MemberTokens
