@@ -55,7 +55,7 @@ QUOTED_JSON = rb"""{"session":"'a b: tracer c'","tracer":"'d \\'e'","messages":1
 
 # Lines that are no object of the schema.
 NO_OBJECTS = (
-    '{"session":"s1","tracer":"t1"}',
+    '{"session":"s1","messages":1}',
     '{"session":"s1","tracer":"t1","messages":-1}',
     '{"session":"s1","tracer":"t1","messages":1,"more":1}',
     '{"session":"s1","tracer":"t1","message":1,"kind":"sends","pid":"<0.100.0>","text":""}',
