@@ -18,7 +18,7 @@ _tracenode() {
         *,=) before=${COMP_WORDS[COMP_CWORD - 1]} word= ;;
     esac
     if [ "$COMP_CWORD" -eq 1 ]; then
-        words='run replay round workers explain draw spec fun explore compare help -h --help -V --version'
+        words='run replay round workers explain draw spec fun explore compare serve help -h --help -V --version'
         case ${COMP_WORDS[0]} in
             */*) words+=' --prove --install --release' ;;
         esac
@@ -78,7 +78,8 @@ _tracenode() {
                 words+=' --max-states --max-output -h --help' ;;
             compare) words='--trace --prefix --after --control --order --session --json'
                 words+=' --max-states --max-output -h --help' ;;
-            help) words='run replay round workers explain draw spec fun explore compare' ;;
+            serve) words='-h --help' ;;
+            help) words='run replay round workers explain draw spec fun explore compare serve' ;;
         esac
     fi
     COMPREPLY=($(compgen -W "$words" -- "$word"))

@@ -64,6 +64,10 @@ NO_OBJECTS = (
     '{"reply":true,"text":"1"}',
     '{"journal":[-1]}',
     '{"move":1,"pick":0,"event":"","session":"s1"}',
+    '{"command":"fun"}',
+    '{"status":5,"output":"","errors":""}',
+    '{"status":0,"output":""}',
+    '{"error":"no request"}',
     '"text"',
     "[]",
 )

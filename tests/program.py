@@ -29,6 +29,7 @@ import moves_cases
 import picture_cases
 import mistake_cases
 import run_cases
+import serve_cases
 import specification_cases
 import text_cases
 
@@ -91,6 +92,16 @@ SUBJECTS = {
         comparison_cases.comparison_json,
     ),
     "format": (format_cases.formats, format_cases.schema),
+    "serve": (
+        serve_cases.answers,
+        serve_cases.faults,
+        serve_cases.lines,
+        serve_cases.turns,
+        serve_cases.many,
+        serve_cases.broken_ends,
+        serve_cases.refused_answers,
+        serve_cases.little_room,
+    ),
     "bound": (
         bound_cases.bounds,
         bound_cases.refusals_in_bounds,

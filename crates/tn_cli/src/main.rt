@@ -12,6 +12,7 @@ ghost use Rattle.tn_command.specs.Explorations.{IsExplorationStatus};
 mod format;
 mod output_bound;
 mod request;
+mod serve;
 mod value;
 
 use clap::ArgMatches;
@@ -19,6 +20,7 @@ use clap::error::ErrorKind;
 use format::format_of;
 use output_bound::most_of;
 use request::request_of;
+use serve::serve;
 use std::alloc::{AllocError, Global};
 use std::io;
 use std::process::ExitCode;
@@ -162,20 +164,53 @@ fn refuse<R: Print + Eprint + AllocGlobal>(
     }
 }
 
-/// Reads the command line, and does what it says.
-fn program<R: Env + Input + Files + Print + Eprint + AllocGlobal + Threads + Wait + Sync>(
+/// What is read of the words of a command line.
+///
+/// # Errors
+///
+/// The status, after the help or why the words are refused.
+fn matches_of<'a, R: Print + Eprint + AllocGlobal>(
+    rt: &R,
+    words: &'a [String],
+) -> Result<ArgMatches<'a>, ExitCode>
+    ensures { IfErr result (λ s. IsExplorationStatus (exit_status s)) }
+{
+    let Ok(command) = command(rt.alloc()) else {
+        return Err(report(rt, CommandFault::Memory));
+    };
+    match command.try_get_matches_from(words) {
+        Ok(matches) => Ok(matches),
+        Err(error) if error.kind() == ErrorKind::OutOfMemory => {
+            Err(report(rt, CommandFault::Memory))
+        }
+        Err(error) => Err(refuse(rt, words, &error)),
+    }
+}
+
+/// Does what the words of a command line say, which isn't `serve`.
+fn do_words<R: Input + Files + Print + Eprint + AllocGlobal + Threads + Wait + Sync>(
     rt: &R,
     words: &[String],
 ) -> ExitCode
     ensures { IsExplorationStatus (exit_status result) }
 {
-    let Ok(command) = command(rt.alloc()) else {
-        return report(rt, CommandFault::Memory);
-    };
-    match command.try_get_matches_from(words) {
+    match matches_of(rt, words) {
         Ok(matches) => run_command(rt, &matches),
-        Err(error) if error.kind() == ErrorKind::OutOfMemory => { report(rt, CommandFault::Memory) }
-        Err(error) => refuse(rt, words, &error),
+        Err(status) => status,
+    }
+}
+
+/// Reads the command line, and does what it says.
+fn program<R: Input + Files + Print + Eprint + AllocGlobal + Threads + Wait + Sync>(
+    rt: &R,
+    words: &[String],
+) -> ExitCode
+    ensures { IsExplorationStatus (exit_status result) }
+{
+    match matches_of(rt, words) {
+        Ok(matches) if matches!(matches.subcommand_name(), Some("serve")) => serve(rt),
+        Ok(matches) => run_command(rt, &matches),
+        Err(status) => status,
     }
 }
 

@@ -149,4 +149,4 @@ COMPARE_ARGUMENTS = TRACES ++ codes "order" ∷ codes "session" ∷ codes "max-s
 
 -- the commands of the program
 abbrev pub COMMAND_NAMES : List (List ℕ)
-COMMAND_NAMES = codes "run" ∷ codes "replay" ∷ codes "round" ∷ codes "workers" ∷ codes "explain" ∷ codes "draw" ∷ codes "spec" ∷ codes "fun" ∷ codes "explore" ∷ codes "compare" ∷ []
+COMMAND_NAMES = codes "run" ∷ codes "replay" ∷ codes "round" ∷ codes "workers" ∷ codes "explain" ∷ codes "draw" ∷ codes "spec" ∷ codes "fun" ∷ codes "explore" ∷ codes "compare" ∷ codes "serve" ∷ []

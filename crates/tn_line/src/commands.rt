@@ -14,6 +14,7 @@ use crate::arguments::{
 use crate::compare_command::compare;
 use crate::explore_command::explore;
 use crate::fun_command::fun;
+use crate::serve_command::serve;
 use clap::{ArgGroup, Command};
 use std::alloc::{AllocError, Global};
 
@@ -241,5 +242,6 @@ pub fn command<'a>(alloc: Global) -> Result<Command<'a>, AllocError>
     let command = with_subcommand(command, spec(alloc))?;
     let command = with_subcommand(command, fun(alloc))?;
     let command = with_subcommand(command, explore(alloc))?;
-    with_subcommand(command, compare(alloc))
+    let command = with_subcommand(command, compare(alloc))?;
+    with_subcommand(command, serve(alloc))
 }

@@ -10,5 +10,6 @@ mod commands;
 mod compare_command;
 mod explore_command;
 mod fun_command;
+mod serve_command;
 
 pub use commands::command;

@@ -26,6 +26,8 @@ returns c =
     c.fun.ensures c.in_ok-command-9.ensures in
     let eighth = command_made _ (codes "explore") EXPLORE_ARGUMENTS c.in_ok-command-9.command c.in_ok-command-10.command c.explore.result seventh
     c.explore.ensures c.in_ok-command-10.ensures in
-    IfOk-weaker c.with_subcommand-10.result _ _
-    (λ new added. command_made _ (codes "compare") COMPARE_ARGUMENTS c.in_ok-command-10.command new c.compare.result eighth c.compare.ensures added)
-    c.with_subcommand-10.ensures
+    let ninth = command_made _ (codes "compare") COMPARE_ARGUMENTS c.in_ok-command-10.command c.in_ok-command-11.command c.compare.result eighth
+    c.compare.ensures c.in_ok-command-11.ensures in
+    IfOk-weaker c.with_subcommand-11.result _ _
+    (λ new added. command_made _ (codes "serve") [] c.in_ok-command-11.command new c.serve.result ninth c.serve.ensures added)
+    c.with_subcommand-11.ensures

@@ -1,0 +1,5 @@
+mod JsonLines
+mod AnswerLines
+mod AnswerTexts
+mod ReadRequests
+mod RequestRows

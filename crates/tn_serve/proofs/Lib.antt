@@ -1,0 +1,3 @@
+pub mod ReadMembers
+pub mod Outcomes
+pub mod LineReadings

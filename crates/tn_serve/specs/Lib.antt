@@ -1,0 +1,3 @@
+pub mod Captures
+pub mod Views
+pub mod MemberTokens
