@@ -53,9 +53,10 @@ fn text_of<R: Input + Files + Eprint + AllocGlobal>(
 }
 
 /// Does what is asked for, in a form. The texts that are expected are read first, and then the text beside the script.
-/// One of all these alone is read from standard input.
-fn run_request<R: Input + Files + Print + Eprint + AllocGlobal + Threads + Wait + Sync>(
+/// One of all these alone is read from standard input. Workers run on the threads.
+fn run_request<R: Input + Files + Print + Eprint + AllocGlobal, T: Threads + Wait + Sync>(
     rt: &R,
+    threads: &T,
     request: &Request<'_>,
     form: OutputForm,
 ) -> ExitCode
@@ -75,12 +76,13 @@ fn run_request<R: Input + Files + Print + Eprint + AllocGlobal + Threads + Wait 
         Err(status) => return status,
     };
     let expectation = expectation_of(&words, &texts);
-    answer_request(rt, request, &text, form, &expectation)
+    answer_request(rt, threads, request, &text, form, &expectation)
 }
 
 /// Does what was read of the words.
-fn run_command<R: Input + Files + Print + Eprint + AllocGlobal + Threads + Wait + Sync>(
+fn run_command<R: Input + Files + Print + Eprint + AllocGlobal, T: Threads + Wait + Sync>(
     rt: &R,
+    threads: &T,
     matches: &ArgMatches<'_>,
 ) -> ExitCode
     ensures { IsExplorationStatus (exit_status result) }
@@ -93,7 +95,7 @@ fn run_command<R: Input + Files + Print + Eprint + AllocGlobal + Threads + Wait 
         Err(bad) => return refuse_value(rt, bad),
     };
     match request_of(matches) {
-        Ok(Some(request)) => run_request(rt, &request, form),
+        Ok(Some(request)) => run_request(rt, threads, &request, form),
         Ok(None) => ExitCode::from(REFUSED),
         Err(bad) => refuse_value(rt, bad),
     }
@@ -188,14 +190,15 @@ fn matches_of<'a, R: Print + Eprint + AllocGlobal>(
 }
 
 /// Does what the words of a command line say, which isn't `serve`.
-fn do_words<R: Input + Files + Print + Eprint + AllocGlobal + Threads + Wait + Sync>(
+fn do_words<R: Input + Files + Print + Eprint + AllocGlobal, T: Threads + Wait + Sync>(
     rt: &R,
+    threads: &T,
     words: &[String],
 ) -> ExitCode
     ensures { IsExplorationStatus (exit_status result) }
 {
     match matches_of(rt, words) {
-        Ok(matches) => run_command(rt, &matches),
+        Ok(matches) => run_command(rt, threads, &matches),
         Err(status) => status,
     }
 }
@@ -209,7 +212,7 @@ fn program<R: Input + Files + Print + Eprint + AllocGlobal + Threads + Wait + Sy
 {
     match matches_of(rt, words) {
         Ok(matches) if matches!(matches.subcommand_name(), Some("serve")) => serve(rt),
-        Ok(matches) => run_command(rt, &matches),
+        Ok(matches) => run_command(rt, rt, &matches),
         Err(status) => status,
     }
 }

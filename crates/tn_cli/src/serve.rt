@@ -34,7 +34,7 @@ fn answer<R: Files + AllocGlobal + Threads + Wait + Sync>(
     let ServeRequest { command, input } = request;
     let words = with_program(rt.alloc(), command)?;
     let runtime = ServeRuntime::new(rt, input.as_bytes());
-    let status = do_words(&runtime, &words);
+    let status = do_words(&runtime, rt, &words);
     let Some((output, errors)) = runtime.into_texts() else {
         return Err(RequestFault::Memory);
     };

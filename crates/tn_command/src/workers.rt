@@ -133,23 +133,24 @@ impl Command for WorkersRun<'_> {
     }
 }
 
-/// Runs the script that a reader with this name holds by workers, and writes to standard output.
-fn print_run<R: Print + Eprint + AllocGlobal + Threads + Wait + Sync, S: Read + Drop, G: Gate>(
+/// Runs the script that a reader with this name holds by workers on these threads, and writes to standard output.
+fn print_run<R: Print + Eprint + AllocGlobal, T: Threads + Wait + Sync, S: Read + Drop, G: Gate>(
     rt: &R,
-    name: &str,
-    reader: S,
+    threads: &T,
+    script: (&str, S),
     workers: &Workers<'_, G>,
     job: &WorkersRun<'_>,
 ) -> ExitCode
     requires { IsWorkerCount workers.now.count }
     ensures { IsStatus (exit_status result) }
 {
+    let (name, reader) = script;
     let mut script = script_of(rt.alloc(), name, reader);
     if job.expectation.is_none() {
         let mut writer = Watched::of(LastError::of(io::writer(rt)));
         let script_reader = &mut script.reader;
         let end = run_workers_in_form_over(
-            rt,
+            threads,
             rt.alloc(),
             script_reader,
             &mut writer,
@@ -168,7 +169,7 @@ fn print_run<R: Print + Eprint + AllocGlobal + Threads + Wait + Sync, S: Read + 
     let mut writer = Watched::of(LastError::of(Tee::of(rt.alloc(), io::writer(rt))));
     let script_reader = &mut script.reader;
     let end = run_workers_in_form_over(
-        rt,
+        threads,
         rt.alloc(),
         script_reader,
         &mut writer,
@@ -178,19 +179,26 @@ fn print_run<R: Print + Eprint + AllocGlobal + Threads + Wait + Sync, S: Read + 
     print_judgement(rt, job, end, script, writer, job.expectation)
 }
 
-/// Runs the script of a source by workers, and writes to standard output; and the note, where the job has one. Where
-/// something is expected of the output, it is held against that.
+/// Runs the script of a source by workers on these threads, and writes to standard output; and the note, where the job
+/// has one. Where something is expected of the output, it is held against that.
 pub fn run_workers<
-    R: Input + Files + Print + Eprint + AllocGlobal + Threads + Wait + Sync,
+    R: Input + Files + Print + Eprint + AllocGlobal,
+    T: Threads + Wait + Sync,
     G: Gate,
->(rt: &R, script: Source<'_>, workers: &Workers<'_, G>, job: &WorkersRun<'_>) -> ExitCode
+>(
+    rt: &R,
+    threads: &T,
+    script: Source<'_>,
+    workers: &Workers<'_, G>,
+    job: &WorkersRun<'_>,
+) -> ExitCode
     requires { IsWorkerCount workers.now.count }
     ensures { IsStatus (exit_status result) }
 {
     match script {
-        Source::Input => print_run(rt, INPUT, rt.reader(), workers, job),
+        Source::Input => print_run(rt, threads, (INPUT, rt.reader()), workers, job),
         Source::File(path) => match open(rt, path) {
-            Ok(file) => print_run(rt, path, file, workers, job),
+            Ok(file) => print_run(rt, threads, (path, file), workers, job),
             Err(status) => status,
         },
     }

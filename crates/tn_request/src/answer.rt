@@ -126,9 +126,10 @@ fn perform_request<R: Input + Files + Print + Eprint + AllocGlobal>(
 }
 
 /// Does what is asked for, with the text that was read beside the script, and writes to standard output in a form. The
-/// output is compared with what is expected of it.
-pub fn answer_request<R: Input + Files + Print + Eprint + AllocGlobal + Threads + Wait + Sync>(
+/// output is compared with what is expected of it. Workers alone use the threads.
+pub fn answer_request<R: Input + Files + Print + Eprint + AllocGlobal, T: Threads + Wait + Sync>(
     rt: &R,
+    threads: &T,
     request: &Request<'_>,
     read: &[u8],
     form: OutputForm,
@@ -139,7 +140,7 @@ pub fn answer_request<R: Input + Files + Print + Eprint + AllocGlobal + Threads 
 {
     match request {
         Request::Run(run) => perform_request(rt, run, read, form, expectation),
-        Request::Workers(workers) => run_workers_request(rt, workers, form, expectation),
+        Request::Workers(workers) => run_workers_request(rt, threads, workers, form, expectation),
         Request::Spec(trial) if trial.fun => test_fun(
             rt,
             &spec_input_of(trial, read),

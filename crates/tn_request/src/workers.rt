@@ -87,10 +87,14 @@ pub fn run_workers_request_over<T: Threads + Wait + Sync, R: Read, W: Write>(
     run_workers_in_form_over(rt, alloc, reader, writer, &workers, form)
 }
 
-/// Runs the script of a request by its workers, and writes to standard output in a form. Where something is expected of
-/// the output, it is compared with that.
-pub fn run_workers_request<R: Input + Files + Print + Eprint + AllocGlobal + Threads + Wait + Sync>(
+/// Runs the script of a request by its workers on these threads, and writes to standard output in a form. Where
+/// something is expected of the output, it is compared with that.
+pub fn run_workers_request<
+    R: Input + Files + Print + Eprint + AllocGlobal,
+    T: Threads + Wait + Sync,
+>(
     rt: &R,
+    threads: &T,
     request: &WorkersRequest<'_>,
     form: OutputForm,
     expectation: &Expectation<'_>,
@@ -100,5 +104,5 @@ pub fn run_workers_request<R: Input + Files + Print + Eprint + AllocGlobal + Thr
     let gate = gate_of(request);
     let workers = workers_of(request, &gate);
     let job = workers_job_of(request, form, expectation);
-    run_workers(rt, request.script, &workers, &job)
+    run_workers(rt, threads, request.script, &workers, &job)
 }

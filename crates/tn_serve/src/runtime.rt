@@ -1,36 +1,26 @@
 // The runtime in which the command line of a request is done.
 use crate::capture::Capture;
 use std::alloc::{Allocator, Global};
+use std::cell::RefCell;
 use std::fmt::Display;
 use std::fs::{Metadata, OpenOptions};
 use std::io;
 use std::io::{BufRead, Error, ErrorKind, Lines, Write};
 use std::rt::Files;
-use std::sync::atomic::{AtomicBool, Ordering};
-use std::sync::{Mutex, Wait};
-use std::thread::Threads;
 
-/// What is written to a stream, by one thread at a time.
+/// What is written to a stream.
 #[derive(Drop)]
-struct Stream {
-    capture: Mutex<Capture>,
-    /// Whether something was lost because another thread was writing.
-    is_cut: AtomicBool,
-}
+struct Stream(RefCell<Capture>);
 
 impl Stream {
     /// Nothing was written yet.
     fn new(alloc: Global) -> Stream {
-        Stream {
-            capture: Mutex::new(Capture::new(alloc)),
-            is_cut: AtomicBool::new(false),
-        }
+        Stream(RefCell::new(Capture::new(alloc)))
     }
 
     /// Writes more.
     fn append(&self, bytes: &[u8]) -> io::Result<()> {
-        let Some(mut capture) = self.capture.try_lock() else {
-            self.is_cut.store(true, Ordering::SeqCst);
+        let Ok(mut capture) = self.0.try_borrow_mut() else {
             return Err(Error::from(ErrorKind::WouldBlock));
         };
         match capture.append(bytes) {
@@ -39,15 +29,9 @@ impl Stream {
         }
     }
 
-    /// All that was written; None where some of it was lost.
+    /// All that was written; None where memory for it was refused.
     fn into_text(self) -> Option<Vec<u8>> {
-        let Stream { capture, is_cut } = self;
-        let text = capture.into_inner().into_text();
-        if is_cut.load(Ordering::SeqCst) {
-            None
-        } else {
-            text
-        }
+        self.0.into_inner().into_text()
     }
 }
 
@@ -67,7 +51,7 @@ impl Write for StreamWriter<'_> {
 }
 
 /// A runtime whose standard input is a text and whose standard output and standard error are kept. All else is that of
-/// its host: files, memory and threads.
+/// its host: files and memory. It has no threads: a command that uses them takes its host's.
 ///
 /// Each reader of its standard input begins at the beginning of the text. A command reads it once.
 #[derive(Drop)]
@@ -98,10 +82,6 @@ impl<R> ServeRuntime<'_, R> {
         Some((output.into_text()?, errors?))
     }
 }
-
-impl<R: Threads> Threads for ServeRuntime<'_, R> {}
-
-impl<R: Wait> Wait for ServeRuntime<'_, R> {}
 
 impl<R: Alloc> Alloc for ServeRuntime<'_, R> {
     type A = R::A;
