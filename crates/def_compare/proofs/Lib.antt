@@ -2,5 +2,5 @@ mod Pairs
 mod Beginnings
 pub mod Matches
 pub mod InOrder
-mod Prefixes
+pub mod Prefixes
 mod Rows

@@ -18,23 +18,23 @@ use Rattle.def_compare.specs.Laws.{MatchIsPossible, NoMatchIsImpossible, Possibl
 use Rattle.def_compare.proofs.Pairs.{computed_pairs_show, shown_has_pairs, prefix_has_pairs, begins_if}
 use Rattle.def_compare.proofs.Beginnings.{begins_before}
 
-none_is : {X : Type 0} (x : X) → None ≡ Some x → ⊥
+pub none_is : {X : Type 0} (x : X) → None ≡ Some x → ⊥
 none_is x h = cc
 
 some_is_not : {X : Type 0} (x : X) → Some x ≡ None → ⊥
 some_is_not x h = cc
 
-some_is : {X : Type 0} (x y : X) → Some x ≡ Some y → x ≡ y
+pub some_is : {X : Type 0} (x y : X) → Some x ≡ Some y → x ≡ y
 some_is x y h = ap (λ o. unwrap_or o x) h
 
 -- ---- the first match
 
 -- it is of a sound entry, with its partners
-record IsMatch (admits : KeptMessages → Bool) (q : RunQuestion) (ss : List Name) (p : Program) (before : List ℕ) (f : KeptMessages → Option (List (ℕ × ℕ))) (m : Match) : Type 0 where
-  entry : IsEndEntry admits q ss p before m.entry
-  pairs : f m.entry.kept ≡ Some m.pairs
+pub record IsMatch (admits : KeptMessages → Bool) (q : RunQuestion) (ss : List Name) (p : Program) (before : List ℕ) (f : KeptMessages → Option (List (ℕ × ℕ))) (m : Match) : Type 0 where
+  pub entry : IsEndEntry admits q ss p before m.entry
+  pub pairs : f m.entry.kept ≡ Some m.pairs
 
-match_is : (admits : KeptMessages → Bool) (q : RunQuestion) (ss : List Name) (p : Program) (before : List ℕ) (f : KeptMessages → Option (List (ℕ × ℕ))) (es : List RestEntry) (m : Match) →
+pub match_is : (admits : KeptMessages → Bool) (q : RunQuestion) (ss : List Name) (p : Program) (before : List ℕ) (f : KeptMessages → Option (List (ℕ × ℕ))) (es : List RestEntry) (m : Match) →
     AreSoundWithin admits q ss p before es → first_match f es ≡ Some m → IsMatch admits q ss p before f m
 match_is admits q ss p before f [] m sound h = absurd (none_is m h)
 match_is admits q ss p before f (e ∷ es) m sound h = go (f e.kept) refl h (match_is admits q ss p before f es m sound.1)
