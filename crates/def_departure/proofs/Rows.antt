@@ -40,6 +40,13 @@ another_message = refl
 pub same_message : departure_of (about_trace (asked (word "hi"))) (run ∷ []) ≡ None
 same_message = refl
 
+-- a run at rest that has no message where the trace has one doesn't depart from it
+abbrev silent_run : RestEntry
+silent_run = record { kept = kept_by_process ([] ∷ []); journal = 0 ∷ 100 ∷ [] }
+
+pub no_message : departure_of (about_trace (asked (word "hi"))) (silent_run ∷ []) ≡ None
+no_message = refl
+
 -- patterns have no trace
 pub of_patterns : departure_of (about_patterns []) (run ∷ []) ≡ None
 of_patterns = refl

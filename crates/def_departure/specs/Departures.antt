@@ -1,22 +1,25 @@
--- What is explained where no run shows a trace: the last move of the run that begins with the longest prefix (own).
+-- What is explained where no run shows a trace: the move by which the run that begins with the longest prefix departs from it (own).
 -- Depends on comparisons of traces, and on the account of a run.
-use Rattle.std.specs.Prelude.{ℕ, List, [], ◌∷◌, ◌++◌, length, Option, Some, None, codes}
-use Rattle.std.specs.Option.{option_map}
+use Rattle.std.specs.Prelude.{ℕ, List, [], ◌∷◌, ◌++◌, length, Option, Some, None, codes, if◌then◌else◌}
 use Rattle.def_term.specs.Names.{Name}
 use Rattle.def_script.specs.Program.{Program}
 use Rattle.def_explain.specs.RunTexts.{account_text}
 use Rattle.def_explore.specs.Answers.{RestEntry}
-use Rattle.def_compare.specs.Traces.{TraceQuestion}
-use Rattle.def_compare.specs.Entries.{Match, possible_by, longest_prefix}
+use Rattle.def_compare.specs.Traces.{TraceQuestion, begins_trace}
+use Rattle.def_compare.specs.Entries.{Match, Prefix, possible_by, longest_prefix}
 use Rattle.def_compare.specs.Answers.{SearchQuestion, about_patterns, about_trace}
 use Rattle.def_compare.specs.AnswerRows.{AnswerForm, plain_answer, json_answer}
 
--- the journal of the run that begins with the longest prefix, where none shows the trace
+-- the journal of a run, where what is kept of it doesn't begin the trace any more
+abbrev pub departure_by : TraceQuestion → Option Prefix → Option (List ℕ)
+departure_by a None = None
+departure_by a (Some f) = if begins_trace a.messages f.by.entry.kept then None else Some f.by.entry.journal
+
+-- that of the run that begins with the longest prefix, where none shows the trace
 abbrev pub departure_unless : Option Match → TraceQuestion → List RestEntry → Option (List ℕ)
 departure_unless (Some m) a es = None
-departure_unless None a es = option_map (λ f. f.by.entry.journal) (longest_prefix a.messages es (length a.messages))
+departure_unless None a es = departure_by a (longest_prefix a.messages es (length a.messages))
 
--- that run is followed up to the move after which it doesn't begin the trace any more, or to rest
 abbrev pub departure_of : SearchQuestion → List RestEntry → Option (List ℕ)
 departure_of (about_patterns qs) es = None
 departure_of (about_trace a) es = departure_unless (possible_by a es) a es
