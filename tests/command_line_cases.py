@@ -684,7 +684,7 @@ DOCUMENTS = (
 
 def archive_files():
     """The files of an archive, each with the one that it is a copy of."""
-    paths = [*(TOP / name for name in DOCUMENTS), *(TOP / "docs").glob("*.svg"), *EXAMPLES.glob("*.term"), *EXAMPLES.glob("*.erl")]
+    paths = [*(TOP / name for name in DOCUMENTS), *(TOP / "docs").glob("*.svg"), *(path for kind in ("term", "trace", "erl") for path in EXAMPLES.glob(f"*.{kind}"))]
     return {**INSTALLED, **{f"share/doc/tracenode/{path.relative_to(TOP)}": path for path in paths}}
 
 

@@ -134,6 +134,15 @@ def prefix_answer(script, told, trace, total):
     return begin + pair_lines(pairs) + difference(trace, count, pairs, lines, total)
 
 
+def departure(script, header, told, trace, total):
+    """What is explained where the run of the longest prefix has a message that the trace hasn't: its last move."""
+    found = LONGEST.match(told)
+    if not found or begun(groups_of(listing(script, found[3]), total), lists_of(trace, total)) is not None:
+        return ""
+    words = ["--picks", found[3], "--move", str(len(found[3].split())), "--session", header.split()[2]]
+    return "== explained\n" + run(["explain", *words], script).stdout.decode()
+
+
 def longest(trace, entries, total):
     """How many messages of a trace the runs to rest begin with."""
     return next(n for n in range(len(trace), -1, -1) if first_match(trace[:n], entries, total, True))
@@ -289,9 +298,11 @@ def comparisons():
                 for goes_on in (False, True):
                     lay = LAYOUTS[n % len(LAYOUTS)]
                     ran = compare(script, lay(lines), [*options, *(["--prefix"] if goes_on else [])])
-                    told, _, closing = ran.stdout.decode().removeprefix(header).partition("== explored\n")
+                    answer, mark, explained = ran.stdout.decode().removeprefix(header).partition("== explained\n")
+                    told, _, closing = answer.partition("== explored\n")
                     good, status = is_answer(script, told, lines, searched, total, goes_on)
                     in_order = not total and POSSIBLE.match(told)
+                    good = good and mark + explained == departure(script, header, told, lines, total)
                     good = good and CLOSING.fullmatch(closing) and (not whole or in_order or closing.startswith("complete"))
                     good = good and ran.returncode == status and not ran.stderr
                     check(f"compare {words} with {name}, {journal}, change {n}, {goes_on}", good, (lines, ran))
@@ -443,7 +454,7 @@ def comparison_json():
             for lines in [trace, *changes(trace, chance)]:
                 plain = compare(script, "\n".join(lines), options)
                 ran = compare(script, "\n".join(lines), ["--json", *options])
-                told, _, closing = plain.stdout.decode().partition("== explored\n")
+                told, _, closing = plain.stdout.decode().partition("== explained\n")[0].partition("== explored\n")
                 found = [json.loads(line) for line in ran.stdout.decode().splitlines()]
                 listings = found[-1]["listings"] if found else 0
                 wanted = [head, comparison_row(told.splitlines()[1:]), explored_row(closing, listings)]

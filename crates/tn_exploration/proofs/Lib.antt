@@ -1,4 +1,5 @@
 pub mod Places
+pub mod DepartureRuns
 pub mod Explorations
 pub mod TextQuestions
 mod Runs

@@ -2,7 +2,7 @@
 use Rattle.std.proofs.Common.{◌≡◌, ℕ, Bool, true, false, List, Option, Some, None, not, ◌&&◌, ◌||◌, refl}
 use Rattle.std.specs.Prelude.{is_some}
 use Rattle.def_compare.specs.Entries.{Match}
-use Rattle.tn_exploration.specs.Searches.{SearchText, text_by_match}
+use Rattle.tn_exploration.specs.Searches.{text_by_match}
 
 -- it has one, where it says so
 pub with_run : (text : List ℕ) (o : Option Match) (whole settled unmet : Bool) → settled ≡ (whole || is_some o) → unmet ≡ (whole && not (is_some o)) → (settled && not unmet) ≡ true

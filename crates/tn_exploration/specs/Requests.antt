@@ -6,6 +6,7 @@ use Rattle.def_term.specs.Names.{Name}
 use Rattle.def_script.specs.Program.{Program}
 use Rattle.def_script.specs.Script.{Refusal, creations}
 use Rattle.def_run.specs.Round.{is_empty}
+use Rattle.def_departure.specs.Departures.{departure_text}
 use Rattle.tn_answers.specs.SearchAnswers.{form_seen, search_question_seen}
 use Rattle.tn_moves.specs.Schedules.{schedule_seen, AreMovesOf, HasPicks}
 use Rattle.tn_run.specs.Answers.{IsRefusedRun, text_refusal}
@@ -46,10 +47,12 @@ places_of asked p = places_from asked 0 (creations p.commands)
 
 -- ---- what is written
 
--- the text answers the question about the sessions at these places, by the schedules that begin with a journal; it says whether more states could change nothing, and whether a demand is refuted or the trace is impossible
+-- the text answers the question about the sessions at these places, by the schedules that begin with a journal, and explains the move by which a run departs from a trace that none shows; it says whether more states could change nothing, and whether a demand is refuted or the trace is impossible
 abbrev pub IsSearchText : ExploreRequest → Program → (before places text : List ℕ) → (settled unmet : Bool) → Type 0
 IsSearchText q p before places text settled unmet =
-    IsAnswerText (form_seen q.form) (elements_at places (creations p.commands)) (search_question_seen q.question) (is_by_process q.order) p before places q.max_states (record { text = text; settled = settled; unmet = unmet })
+    (answer : List ℕ) × (departure : Option (List ℕ))
+    × IsAnswerText (form_seen q.form) (elements_at places (creations p.commands)) (search_question_seen q.question) (is_by_process q.order) p before places q.max_states (record { text = answer; settled = settled; unmet = unmet }) departure
+    × (text ≡ answer ++ departure_text (form_seen q.form) (elements_at places (creations p.commands)) p departure)
 
 -- the texts of searches, each about the sessions at some places, one after another, whether all of them are settled, and whether one is unmet
 abbrev pub AreSearchTexts : ExploreRequest → Program → List ℕ → List (List ℕ) → List ℕ → (settled unmet : Bool) → Type 0

@@ -2,6 +2,7 @@
 -- Depends on searches through all schedules, and on the texts of their answers.
 use Rattle.std.specs.Prelude.{◌≡◌, ℕ, ◌+◌, ◌-◌, Bool, true, false, List, [], ◌∷◌, length, Option, Some, None}
 use Rattle.std.specs.Option.{option_map}
+use Rattle.std.specs.declared.vec.Vec.{Vec}
 use Rattle.def_term.specs.Names.{Name}
 use Rattle.def_script.specs.Program.{Program}
 use Rattle.def_run.specs.Run.{moves}
@@ -10,6 +11,7 @@ use Rattle.def_compare.specs.Traces.{TraceQuestion, begins_trace}
 use Rattle.def_compare.specs.Entries.{Match, possible_by}
 use Rattle.def_compare.specs.Answers.{SearchQuestion, about_trace, admits_for, is_settled, is_unmet}
 use Rattle.def_compare.specs.AnswerRows.{AnswerForm, answer_in}
+use Rattle.def_departure.specs.Departures.{departure_of}
 use Rattle.tn_answers.specs.declared.text.SearchAnswer.{SearchAnswer}
 use Rattle.tn_explore.specs.Searches.{Explores}
 use Rattle.tn_search.specs.GreedyRuns.{greedy_entry}
@@ -25,13 +27,23 @@ pub record SearchText : Type 0 where
 abbrev pub search_text_seen : {A : Type 0} → SearchAnswer A → SearchText
 search_text_seen a = record { text = a.text.items; settled = a.is_settled; unmet = a.is_unmet }
 
--- that of a search through all schedules that begin with a journal
-pub record IsTextOfSearch (form : AnswerForm) (ss : List (Name × Name)) (q : SearchQuestion) (b : Bool) (p : Program) (before places : List ℕ) (max_states : ℕ) (t : SearchText) : Type 0 where
+-- the journal of the run that departs from the trace, where one does
+abbrev pub departure_seen : {A : Type 0} → Option (Vec ℕ A) → Option (List ℕ)
+departure_seen o = option_map (λ v. v.items) o
+
+-- an answer ends as a search about the question that finds these entries
+pub record EndsAs {A : Type 0} (q : SearchQuestion) (es : List RestEntry) (whole : Bool) (a : SearchAnswer A) : Type 0 where
+  pub settled : a.is_settled ≡ is_settled q es whole
+  pub unmet : a.is_unmet ≡ is_unmet q es whole
+
+-- that of a search through all schedules that begin with a journal, and the run that departs from the trace
+pub record IsTextOfSearch (form : AnswerForm) (ss : List (Name × Name)) (q : SearchQuestion) (b : Bool) (p : Program) (before places : List ℕ) (max_states : ℕ) (t : SearchText) (departure : Option (List ℕ)) : Type 0 where
   pub entries : List RestEntry
   pub states : ℕ
   pub whole : Bool
   pub search : Explores (query_of (admits_for q) b p before places) entries max_states states whole
   pub written : t ≡ record { text = answer_in form ss q entries states whole; settled = is_settled q entries whole; unmet = is_unmet q entries whole }
+  pub departs : departure ≡ departure_of q entries
 
 -- ---- a run that shows a trace in its own order
 
@@ -105,10 +117,10 @@ IsTextBefore form ss p before places max_states None o = o ≡ None
 IsTextBefore form ss p before places max_states (Some a) o = IsTextInOrder form ss a p before places max_states o
 
 -- where there is none, the search goes through all schedules in the order that is asked for
-abbrev pub IsTextElse : AnswerForm → List (Name × Name) → SearchQuestion → Bool → Program → (before places : List ℕ) → ℕ → Option SearchText → SearchText → Type 0
-IsTextElse form ss q b p before places max_states (Some u) t = t ≡ u
-IsTextElse form ss q b p before places max_states None t = IsTextOfSearch form ss q b p before places max_states t
+abbrev pub IsTextElse : AnswerForm → List (Name × Name) → SearchQuestion → Bool → Program → (before places : List ℕ) → ℕ → Option SearchText → SearchText → Option (List ℕ) → Type 0
+IsTextElse form ss q b p before places max_states (Some u) t departure = (t ≡ u) × (departure ≡ None)
+IsTextElse form ss q b p before places max_states None t departure = IsTextOfSearch form ss q b p before places max_states t departure
 
-abbrev pub IsAnswerText : AnswerForm → List (Name × Name) → SearchQuestion → Bool → Program → (before places : List ℕ) → ℕ → SearchText → Type 0
-IsAnswerText form ss q b p before places max_states t =
-    (o : Option SearchText) × IsTextBefore form ss p before places max_states (trace_by_process q b) o × IsTextElse form ss q b p before places max_states o t
+abbrev pub IsAnswerText : AnswerForm → List (Name × Name) → SearchQuestion → Bool → Program → (before places : List ℕ) → ℕ → SearchText → Option (List ℕ) → Type 0
+IsAnswerText form ss q b p before places max_states t departure =
+    (o : Option SearchText) × IsTextBefore form ss p before places max_states (trace_by_process q b) o × IsTextElse form ss q b p before places max_states o t departure

@@ -1,5 +1,5 @@
 // A run that shows a trace by process, found by the trace's own order.
-ghost use Rattle.std.specs.Prelude.{◌≡◌, ◌&&◌, IfOk, false, map, not};
+ghost use Rattle.std.specs.Prelude.{◌≡◌, IfOk, false, map};
 ghost use Rattle.std.specs.Option.{option_map};
 ghost use Rattle.tn_program.specs.Views.{program_of};
 ghost use Rattle.tn_answers.specs.AnswerViews.{session_name_seen};
@@ -12,6 +12,7 @@ ghost use Rattle.tn_exploration.specs.Searches.{IsRunBySearch, IsRunInOrder, IsT
 ghost use Rattle.tn_exploration.specs.Searches.{run_in_order_seen, run_of_match, search_text_seen, text_with_run};
 ghost use Rattle.tn_search.specs.States.{is_by_process};
 
+use crate::departures::has_run;
 use std::alloc::{AllocError, Allocator, Global};
 use tn_answers::{AnswerForm, SearchAnswer, SearchQuestion, SessionName, search_answer};
 use tn_comparison::{TraceQuestion, possible_by};
@@ -87,13 +88,6 @@ fn run_in_order<A: Allocator + Copy>(
         return Ok(run);
     }
     run_by_search(alloc, program, trace, &plan)
-}
-
-/// Whether an answer has a run that shows its trace.
-fn has_run<A: Allocator>(answer: &SearchAnswer<A>) -> bool
-    ensures { result ≡ (answer.now.is_settled && not answer.now.is_unmet) }
-{
-    answer.is_settled && !answer.is_unmet
 }
 
 /// What an exploration answers, where one of its runs shows the trace.

@@ -1,12 +1,14 @@
 //! What a program's schedules can give: the job of a command, and its text.
 //!
-//! Depends on tn_search (the search), tn_answers (the text), tn_message_pattern (patterns) and tn_run (jobs). Promises
-//! that `explore` writes the defined texts of explorations of the program's runs, each about one session, or the line
-//! of the one refusal; that its outcome says whether more states could change what is written, and whether what is
-//! demanded of a pattern is refuted or a trace is impossible; and that `add_questions` adds the patterns that texts
-//! spell, or says why one spells none.
+//! Depends on tn_search (the search), tn_answers (the text), tn_explain (the last move of a run), tn_message_pattern
+//! (patterns) and tn_run (jobs). Promises that `explore` writes the defined texts of explorations of the program's
+//! runs, each about one session, with the move by which a run departs from a trace that none shows, or the line of the
+//! one refusal; that its outcome says whether more states could change what is written, and whether what is demanded
+//! of a pattern is refuted or a trace is impossible; and that `add_questions` adds the patterns that texts spell, or
+//! says why one spells none.
 #![tactic(auto)]
 
+mod departures;
 mod in_order;
 mod job;
 mod questions;

@@ -7,8 +7,10 @@ ghost use Rattle.tn_answers.specs.AnswerViews.{session_name_seen};
 ghost use Rattle.tn_answers.specs.SearchAnswers.{form_seen, search_question_seen};
 ghost use Rattle.tn_search.specs.States.{ExploresPlan, is_by_process};
 ghost use Rattle.tn_exploration.specs.Requests.{AddsSearch, AddsSearches, groups_of};
-ghost use Rattle.tn_exploration.specs.Searches.{IsAnswerText, IsTextBefore, search_text_seen, trace_by_process};
+ghost use Rattle.tn_exploration.specs.Searches.{IsAnswerText, IsTextBefore, IsTextOfSearch};
+ghost use Rattle.tn_exploration.specs.Searches.{departure_seen, search_text_seen, trace_by_process};
 
+use crate::departures::{departure_of, put_departure};
 use crate::in_order::answer_in_order;
 use crate::request::ExploreRequest;
 use crate::sessions::names_at;
@@ -67,6 +69,33 @@ fn answer_before<A: Allocator + Copy>(
     }
 }
 
+/// What is answered, and the journal of the run that departs from the trace, where one does.
+#[derive(Drop)]
+struct AnswerWithDeparture<A: Allocator> {
+    answer: SearchAnswer<A>,
+    departure: Option<Vec<u32, A>>,
+}
+
+/// What a search through all schedules of the plan answers about sessions of these names.
+fn answer_by_search<A: Allocator + Copy>(
+    alloc: A,
+    program: &Program<A>,
+    names: &[SessionName<A>],
+    question: &SearchQuestion<'_, Global>,
+    plan: &SearchPlan<'_>,
+    form: AnswerForm,
+) -> Result<AnswerWithDeparture<A>, AllocError>
+    ensures { let q = search_question_seen question.now in let b = is_by_process plan.now.order in
+        let ss = map session_name_seen names.now in let p = program_of program.now in
+        IfOk result (λ a. IsTextOfSearch (form_seen form) ss q b p plan.now.before.now plan.now.places.now
+        plan.now.max_states (search_text_seen a.answer) (departure_seen a.departure)) }
+{
+    let exploration = explore_for(alloc, program, question, plan)?;
+    let answer = search_answer(alloc, names, question, &exploration, form)?;
+    let departure = departure_of(alloc, question, &exploration, &answer)?;
+    Ok(AnswerWithDeparture { answer, departure })
+}
+
 /// What is answered about sessions of these names: by a run in the order of a trace, or else by a search through all
 /// schedules of the plan.
 fn answer_of<A: Allocator + Copy>(
@@ -76,20 +105,22 @@ fn answer_of<A: Allocator + Copy>(
     question: &SearchQuestion<'_, Global>,
     plan: &SearchPlan<'_>,
     form: AnswerForm,
-) -> Result<SearchAnswer<A>, AllocError>
+) -> Result<AnswerWithDeparture<A>, AllocError>
     ensures { let q = search_question_seen question.now in let b = is_by_process plan.now.order in
         let ss = map session_name_seen names.now in let p = program_of program.now in
         IfOk result (λ a. IsAnswerText (form_seen form) ss q b p plan.now.before.now plan.now.places.now
-        plan.now.max_states (search_text_seen a)) }
+        plan.now.max_states (search_text_seen a.answer) (departure_seen a.departure)) }
 {
     if let Some(answer) = answer_before(alloc, program, names, question, plan, form)? {
-        return Ok(answer);
+        return Ok(AnswerWithDeparture {
+            answer,
+            departure: None,
+        });
     }
-    let exploration = explore_for(alloc, program, question, plan)?;
-    search_answer(alloc, names, question, &exploration, form)
+    answer_by_search(alloc, program, names, question, plan, form)
 }
 
-/// Appends the text of a search about the sessions at some places.
+/// Appends the text of a search about the sessions at some places, with the move by which a run departs from the trace.
 fn put_search<A: Allocator + Copy>(
     alloc: A,
     program: &Program<A>,
@@ -108,7 +139,7 @@ fn put_search<A: Allocator + Copy>(
         places,
         max_states: request.max_states,
     };
-    let answer = answer_of(
+    let AnswerWithDeparture { answer, departure } = answer_of(
         alloc,
         program,
         &names,
@@ -117,6 +148,7 @@ fn put_search<A: Allocator + Copy>(
         request.form,
     )?;
     text.extend_from_slice(&answer.text)?;
+    put_departure(alloc, program, &names, request.form, &departure, text)?;
     Ok(SearchEnd {
         is_settled: answer.is_settled,
         is_unmet: answer.is_unmet,

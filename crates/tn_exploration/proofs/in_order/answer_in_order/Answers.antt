@@ -1,4 +1,4 @@
-use Rattle.std.proofs.Common.{◌≡◌, ap, map, refl, subst}
+use Rattle.std.proofs.Common.{◌≡◌, map, refl, subst}
 use Rattle.std.proofs.lemmas.Result.{IfOk-weaker}
 use Rattle.std.specs.Option.{option_map}
 use Rattle.std.specs.Prelude.{None, Some, false, true}

@@ -1,4 +1,4 @@
-use Rattle.std.proofs.Common.{◌∙◌, ap, map, sym}
+use Rattle.std.proofs.Common.{◌∙◌, map, sym}
 use Rattle.std.specs.Prelude.{Some}
 use Rattle.def_compare.specs.Answers.{about_trace}
 use Rattle.def_compare.specs.AnswerRows.{answer_in}

@@ -1,14 +1,12 @@
-use Rattle.std.proofs.Common.{◌≡◌, ap, map, refl, subst}
+use Rattle.std.proofs.Common.{map, refl, subst}
 use Rattle.std.proofs.lemmas.Result.{IfOk-weaker}
 use Rattle.std.specs.Option.{option_map}
 use Rattle.std.specs.Prelude.{None, Some}
 use Rattle.tn_program.specs.Views.{program_of}
 use Rattle.tn_answers.specs.AnswerViews.{session_name_seen}
-use Rattle.tn_answers.specs.SearchAnswers.{IsSearchAnswer, form_seen, search_question_seen}
-use Rattle.tn_explore.specs.Searches.{answer_entries}
-use Rattle.tn_messages.specs.MessageViews.{kept_seen}
+use Rattle.tn_answers.specs.SearchAnswers.{form_seen, search_question_seen}
 use Rattle.tn_search.specs.States.{is_by_process}
-use Rattle.tn_exploration.specs.Searches.{IsAnswerText, IsTextBefore, search_text_seen, trace_by_process}
+use Rattle.tn_exploration.specs.Searches.{IsAnswerText, IsTextBefore, IsTextOfSearch, departure_seen, search_text_seen, trace_by_process}
 use Rattle.tn_exploration.proofs.searches.answer_of.Goals as goal
 
 pub returns-in-Some : goal.returns-in-Some
@@ -20,7 +18,7 @@ returns-in-Some g c =
     let plan = c.args.plan.now in (
       Some (search_text_seen c.in-Some.answer),
       subst (λ o. IsTextBefore (form_seen c.args.form) ss p plan.before.now plan.places.now plan.max_states (trace_by_process q b) (option_map search_text_seen o)) c.in-Some.is c.in_ok-answer.ensures,
-      refl,
+      (refl, refl),
     )
 
 pub returns : goal.returns
@@ -31,17 +29,6 @@ returns g c =
     let ss = map session_name_seen c.args.names.now in
     let plan = c.args.plan.now in
     let form = form_seen c.args.form in
-    let e = c.in_ok-exploration.exploration in
     let before = subst (λ o. IsTextBefore form ss p plan.before.now plan.places.now plan.max_states (trace_by_process q b) (option_map search_text_seen o)) c.in_default.is c.in_ok-answer.ensures in
-    IfOk-weaker c.search_answer.result (IsSearchAnswer form c.args.names.now q e) (λ a. IsAnswerText form ss q b p plan.before.now plan.places.now plan.max_states (search_text_seen a))
-    (λ a h. (
-      None,
-      before,
-      record {
-        entries = answer_entries kept_seen e.answers.entries;
-        states = e.states;
-        whole = e.is_complete;
-        search = c.in_ok-exploration.ensures;
-        written = (λ i. record { text = h.text i; settled = h.settled i; unmet = h.unmet i });
-      },
-    )) c.search_answer.ensures
+    IfOk-weaker c.answer_by_search.result (λ a. IsTextOfSearch form ss q b p plan.before.now plan.places.now plan.max_states (search_text_seen a.answer) (departure_seen a.departure))
+    (λ a. IsAnswerText form ss q b p plan.before.now plan.places.now plan.max_states (search_text_seen a.answer) (departure_seen a.departure)) (λ a h. (None, before, h)) c.answer_by_search.ensures
