@@ -1,4 +1,5 @@
 """Cases of readers, writers and memory that fail."""
+import functools
 import os
 import pathlib
 import resource
@@ -6,6 +7,7 @@ import shutil
 import socket
 import subprocess
 import tempfile
+from concurrent.futures import ProcessPoolExecutor
 
 import layers
 from explanation_cases import EVERY_LINE
@@ -24,6 +26,9 @@ from harness import (
     run,
     wants,
 )
+
+# How many runs, each with another growth refused, are started before the first of them is looked at.
+TOGETHER = 16
 
 
 def ends():
@@ -125,14 +130,23 @@ def growing():
         yield (ROWS / name / "args").read_text().removesuffix("\n").split("\n"), (ROWS / name / "stdin").read_bytes()
 
 
+def in_turn(pool, library, words, script, program=PROGRAM):
+    """The runs in which the growths 0, 1, .. are refused, up to the one in which there is none; several at a time."""
+    call = functools.partial(refused_growth, library, words=words, script=script, program=program)
+    for first in range(0, 100_000, TOGETHER):
+        for ran, is_refused in pool.map(call, range(first, first + TOGETHER)):
+            yield ran, is_refused
+            if not is_refused:
+                return
+
+
 def growths():
     """Each growth of memory refused in turn: a fault and nothing written, or the whole output."""
-    with tempfile.TemporaryDirectory() as folder:
+    with tempfile.TemporaryDirectory() as folder, ProcessPoolExecutor() as pool:
         library = preloaded("refusing_growth", folder)
         for words, script in growing() if library else ():
             whole = run(words, script).stdout
-            for number in range(100_000):
-                ran, is_refused = refused_growth(library, number, words, script)
+            for number, (ran, is_refused) in enumerate(in_turn(pool, library, words, script)):
                 if not is_refused:
                     break
                 is_fault = ran.returncode == 3 and ran.stderr in (b"fault memory\n", b"fault workers\n")
@@ -142,11 +156,10 @@ def growths():
             check(f"each growth of {words}, {number} of them", good, ran)
 
 
-def refusals_of(library, words, script, allowed):
+def refusals_of(pool, library, words, script, allowed):
     """What is refused in each run, with each growth of memory refused in turn; what isn't allowed fails the case."""
     found = []
-    for number in range(100_000):
-        ran, is_refused = refused_growth(library, number, words, script, PROBE)
+    for number, (ran, is_refused) in enumerate(in_turn(pool, library, words, script, PROBE)):
         if (ran.returncode, ran.stdout, ran.stderr) == (3, b"", b"fault memory\n"):
             found.append("before the call")
             continue
@@ -165,10 +178,10 @@ def calls():
     """Each growth of memory refused in turn, over the calls of the layers: each answers as it may."""
     check("the program that calls the layers", PROBE.exists(), PROBE)
     found = {call: set() for call in layers.REFUSED}
-    with tempfile.TemporaryDirectory() as folder:
+    with tempfile.TemporaryDirectory() as folder, ProcessPoolExecutor() as pool:
         library = preloaded("refusing_growth", folder) if PROBE.exists() else None
         for words, script, allowed in layers.cases() if library else ():
-            refused = refusals_of(library, words, script, allowed)
+            refused = refusals_of(pool, library, words, script, allowed)
             check(f"each growth of {words}, {len(refused)} of them", len(refused) > 10, refused)
             found[words[0]].update(refused)
     for call, names in layers.REFUSED.items():
