@@ -1,6 +1,5 @@
 // A move by a pick that a number draws.
 ghost use Rattle.std.specs.Prelude.{◌≡◌, IfOk};
-ghost use Rattle.std.specs.Option.{option_map};
 ghost use Rattle.tn_explore.specs.Query.{Query};
 ghost use Rattle.tn_explore.specs.SearchStates.{HasAllMoves};
 ghost use Rattle.def_random_run.specs.RandomRuns.{pick_at};
@@ -47,7 +46,7 @@ pub(crate) fn moving_among<A: Allocator + Copy, S: SearchState<A>>(
 }
 
 /// The one of some picks at the place that a number gives, modulo their count; None where there are none.
-fn drawn(moving: &[u32], number: u64) -> Option<u32>
+fn pick_by_number(moving: &[u32], number: u64) -> Option<u32>
     ensures { result ≡ pick_at moving.now number }
 {
     if moving.is_empty() {
@@ -69,7 +68,7 @@ pub(crate) fn advance_by<A: Allocator + Copy, S: SearchState<A>>(
         IsMoveOf S.journal (S.is_of context.now) a picks.now number state.old state.new moved) }
 {
     let moving = moving_among(alloc, context, state, picks)?;
-    match drawn(&moving, number) {
+    match pick_by_number(&moving, number) {
         Some(pick) => state.advance(context, pick),
         None => Ok(false),
     }

@@ -14,4 +14,4 @@ returns-in-Some g c =
     IfOk-weaker c.advance.result (AdvancesState J I c.in-Some.pick s t) _
     (λ moved gives a is_of.
     drawn_moves J I a c.args.picks.now c.args.number s c.in_ok-moving.moving.items (c.in_ok-moving.ensures a is_of) c.in-Some.pick t moved
-    (ap (λ ks. pick_at ks c.args.number) (sym c.deref.ensures.value) ∙ sym c.drawn.ensures ∙ c.in-Some.is) (gives a is_of)) c.advance.ensures
+    (ap (λ ks. pick_at ks c.args.number) (sym c.deref.ensures.value) ∙ sym c.pick_by_number.ensures ∙ c.in-Some.is) (gives a is_of)) c.advance.ensures
