@@ -35,6 +35,10 @@ class FreeDifference:
         """A command of the script as the program must be asked."""
         return command
 
+    def case(self, case):
+        """The script as the program must be asked."""
+        return case.with_commands(map(self.command, case.session))
+
     def versions(self, trace):
         """The traces as the program may have them."""
         yield trace.with_messages([message for message in trace.messages if not self.is_left_out(message)])
@@ -169,12 +173,29 @@ class UnlinkedBeforeTheEnd(FreeDifference):
         return sorted(partners, key=lambda partner: reasons.get(partner) != reasons[pid])
 
 
+class EndedBeforeTheSignal(FreeDifference):
+    """An exit signal is taken at the process's next step: on a node when it comes, which can be after the process has ended
+    by itself.
+
+    Processes are asked as if they neither linked nor unlinked, so that no signal ends one.
+    """
+
+    kinds = ("link", "unlink", "getting_linked", "getting_unlinked")
+
+    def concerns(self, case):
+        return any(step[0] == "link" for function in case.functions for step in function.steps)
+
+    def case(self, case):
+        return case.without_steps(("link", "unlink"))
+
+
 # Those that are tried first stand first. The last one leaves out the most.
 DIFFERENCES = [
     LinkToItself(),
     ReceivesLater(),
     NoProcess(),
     UnlinkedBeforeTheEnd(),
+    EndedBeforeTheSignal(),
     SilentAtTheReturn(),
     SilentSends(),
     LinksLater(),
@@ -196,7 +217,7 @@ class Question:
     def changed_by(self, difference):
         """The question as it is asked for a difference."""
         versions = [version for trace in self.traces for version in difference.versions(trace)]
-        return Question(self.case.with_commands(map(difference.command, self.case.session)), versions[:VERSIONS])
+        return Question(difference.case(self.case), versions[:VERSIONS])
 
     def is_the_same(self, other):
         """Both ask the same."""

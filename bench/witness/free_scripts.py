@@ -1,4 +1,6 @@
 """Random scripts for processes that run freely: small ones, whose commands come first."""
+import dataclasses
+
 from witness import differences as known
 from witness.functions import FreeSource
 from witness.scripts import ScriptCase, ScriptChooser
@@ -81,6 +83,14 @@ class FreeCase(ScriptCase):
     def with_commands(self, commands):
         """The script with other commands."""
         return FreeCase(self.functions, self.processes, list(commands))
+
+    def without_steps(self, kinds):
+        """The script without the steps of these kinds."""
+        functions = [
+            dataclasses.replace(function, steps=[step for step in function.steps if step[0] not in kinds])
+            for function in self.functions
+        ]
+        return FreeCase(functions, self.processes, self.session)
 
     def settled(self):
         """The script as both are asked, where a difference is settled by that."""
