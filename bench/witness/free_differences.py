@@ -35,8 +35,8 @@ class FreeDifference:
         """A command of the script as the program must be asked."""
         return command
 
-    def case(self, case):
-        """The script as the program must be asked."""
+    def case(self, case, traces):
+        """The script as the program must be asked about traces."""
         return case.with_commands(map(self.command, case.session))
 
     def versions(self, trace):
@@ -133,6 +133,40 @@ class NoProcess(FreeDifference):
         return (*message[:3], Atom("noproc")) if is_noproc else message
 
 
+class NoProcessInACatch(FreeDifference):
+    """A link to a process that doesn't live ends the process with `noproc`: a node raises it, and a catch goes on with it.
+
+    The functions that a session saw end by it are asked as if the step raised it, after as many links as the trace has.
+    """
+
+    def concerns(self, case):
+        return any(step[0] == "link" for function in case.functions for step in function.steps)
+
+    def places(self, trace):
+        """The functions that raised it, each with how many links the process had a message of just before."""
+        found = {}
+        for own in trace.groups().values():
+            for at, message in enumerate(own):
+                if kind_of(message) == "exception_from" and message[4] == (Atom("error"), Atom("noproc")):
+                    links = itertools.takewhile(lambda other: kind_of(other) == "link", reversed(own[:at]))
+                    found.setdefault(message[3], len(list(links)))
+        return {mfa: count for mfa, count in found.items() if count}
+
+    def case(self, case, traces):
+        return case.with_raises(self.places(traces[0]), (Atom("error"), Atom("noproc")))
+
+    def versions(self, trace):
+        gone = {id(own[at - 1]) for own in trace.groups().values() for at in self.raises(own)}
+        yield trace.with_messages([message for message in trace.messages if id(message) not in gone])
+
+    def raises(self, own):
+        """Where a message of a link comes just before that of the exception."""
+        for at in range(1, len(own)):
+            is_raise = kind_of(own[at]) == "exception_from" and own[at][4] == (Atom("error"), Atom("noproc"))
+            if is_raise and kind_of(own[at - 1]) == "link":
+                yield at
+
+
 class UnlinkedBeforeTheEnd(FreeDifference):
     """An exit signal is taken at the process's next step: on a node when it comes, which can be later.
 
@@ -185,7 +219,7 @@ class EndedBeforeTheSignal(FreeDifference):
     def concerns(self, case):
         return any(step[0] == "link" for function in case.functions for step in function.steps)
 
-    def case(self, case):
+    def case(self, case, traces):
         return case.without_steps(("link", "unlink"))
 
 
@@ -194,6 +228,7 @@ DIFFERENCES = [
     LinkToItself(),
     ReceivesLater(),
     NoProcess(),
+    NoProcessInACatch(),
     UnlinkedBeforeTheEnd(),
     EndedBeforeTheSignal(),
     SilentAtTheReturn(),
@@ -217,7 +252,7 @@ class Question:
     def changed_by(self, difference):
         """The question as it is asked for a difference."""
         versions = [version for trace in self.traces for version in difference.versions(trace)]
-        return Question(difference.case(self.case), versions[:VERSIONS])
+        return Question(difference.case(self.case, self.traces), versions[:VERSIONS])
 
     def is_the_same(self, other):
         """Both ask the same."""

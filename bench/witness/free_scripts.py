@@ -92,6 +92,18 @@ class FreeCase(ScriptCase):
         ]
         return FreeCase(functions, self.processes, self.session)
 
+    def with_raises(self, places, step):
+        """The script in which functions have another step in place of the link with this number, counted from 1."""
+        functions = []
+        for function in self.functions:
+            links = [at for at, each in enumerate(function.steps) if each[0] == "link"]
+            number = places.get(function.mfa(), 0)
+            steps = list(function.steps)
+            if 0 < number <= len(links):
+                steps[links[number - 1]] = step
+            functions.append(dataclasses.replace(function, steps=steps))
+        return FreeCase(functions, self.processes, self.session)
+
     def settled(self):
         """The script as both are asked, where a difference is settled by that."""
         return self.with_commands(self.as_asked(self.settling()).session)
