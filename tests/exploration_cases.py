@@ -5,6 +5,7 @@ import json
 import re
 import shlex
 
+from format_cases import summary
 from harness import EXAMPLES, NO_FORMS, ROWS, SEND_HI, check, run, wants
 from numbers_of_explorations import COUNTS
 from schemas import is_valid
@@ -285,6 +286,117 @@ def has_rows(name, plain, ran, wanted):
     good = found == [json.loads(json.dumps(row), object_pairs_hook=list) for row in wanted]
     good = good and all(is_valid(json.loads(line)) for line in ran.stdout.decode().splitlines())
     check(name, good and (ran.returncode, ran.stderr) == (plain.returncode, plain.stderr), (wanted, ran))
+
+
+# The numbers of a seed: a linear congruential generator over 64 bits.
+LOW_WORD = 2**64 - 1
+
+
+def next_seed(seed):
+    """The seed after a seed."""
+    return (seed * 6364136223846793005 + 1442695040888963407) & LOW_WORD
+
+
+def mixture(seed):
+    """The bits of a seed, mixed."""
+    return ((seed ^ (seed >> 29)) * 11400714819323198485) & LOW_WORD
+
+
+class Runs:
+    """The runs of a script with these movers, each of which is asked for once."""
+
+    def __init__(self, script, movers, in_total):
+        self.script, self.movers, self.in_total, self.known = script, movers, in_total, {}
+
+    def after(self, journal):
+        """The picks that move after a journal, and the listing of the one session."""
+        if journal not in self.known:
+            longer = [journal + (pick,) for pick in self.movers]
+            moving = [picks[-1] for picks in longer if moved(self.script, " ".join(map(str, picks)))[0].split() == [str(pick) for pick in picks]]
+            text = moved(self.script, " ".join(map(str, journal)))[1]
+            self.known[journal] = moving, text if self.in_total or not text else by_process(text)
+        return self.known[journal]
+
+    def random(self, first, most, seed):
+        """The journal of a random run with at most so many moves, and whether it is at rest."""
+        journal = first
+        while True:
+            moving = self.after(journal)[0]
+            if not moving or len(journal) - len(first) == most:
+                return journal, not moving
+            seed = next_seed(seed)
+            journal += (moving[(mixture(seed) >> 33) % len(moving)],)
+
+    def entries(self, first, runs, seed, most):
+        """The listings of random runs, each with its first journal, and how many states they go through."""
+        found, states = {}, 0
+        for _ in range(runs):
+            if states == most:
+                break
+            journal, rests = self.random(first, most - states - 1, mixture(seed))
+            states += len(journal) - len(first) + 1
+            seed = next_seed(seed)
+            if rests:
+                found.setdefault(self.after(journal)[1], journal)
+        return [(" ".join(map(str, journal)), text) for text, journal in found.items()], states
+
+
+# Systems of which random runs are made: the movers, the words of the command line, how many runs, the seed and the bound.
+RANDOM = (
+    ("race", (0, 100), "", 12, 0, None),
+    ("race", (0, 100), "--order total", 30, 7, None),
+    ("race", (0, 100), "--after '0*3'", 9, 4294967295, None),
+    ("race", (0, 100), "", 12, 3, 40),
+    ("race", (0, 100), "", 5, 3, 1),
+    ("send_hi", (0, 100, 101), "--order total", 25, 1, None),
+    ("second_send", (0, 100, 101), "--after '0!'", 6, 2, 30),
+)
+
+
+def random_runs():
+    """The listings of random runs are those of an independent reading; they are never complete; the words for patterns are theirs."""
+    for name, movers, words, runs, seed, most in RANDOM:
+        script = script_of(name)
+        options = [*shlex.split(words), "--random", str(runs), *(["--seed", str(seed)] if seed else [])]
+        options += ["--max-states", str(most)] if most else []
+        ran = run(["explore", *options], script)
+        title = f"explore {shlex.join(options)} of {name}"
+        given = shlex.split(words)
+        first = given[given.index("--after") + 1] if "--after" in given else ""
+        begun = run(["replay", "--quiet", "--moves", first], script).stdout.decode().rpartition("== journal\n")[2].split()
+        entries, states = Runs(script, movers, "total" in words).entries(tuple(map(int, begun)), runs, seed, most or 100000)
+        [(found, end)] = searches(ran.stdout.decode())
+        check(title, found == entries and end[3] == str(states) and ran.returncode == 4 and not ran.stderr, (entries, states, ran))
+        asked = [(demand, pattern) for demand in ("shows", "always", "never", "sometimes") for pattern in PATTERNS]
+        asking = [word for demand, (text, _) in asked for word in (f"--{demand}", text)]
+        answered = run(["explore", *options, *asking], script)
+        found = (answered.stdout.decode(), answered.returncode)
+        check(f"{title} with patterns", found == expected_words(script, ran.stdout.decode(), asked), found)
+        row = run(["explore", "--json", *options], script)
+        has_rows(f"{title} as JSON", ran, row, list(listing_rows(ran.stdout.decode())))
+    for words in (["--seed", "1"], ["--random", "0"], ["--random", "4294967296"], ["--random", "1", "--seed", "-1"], ["--random", "x"]):
+        ran = run(["explore", *words], SEND_HI)
+        check(f"explore {' '.join(words)}", ran.returncode == 2 and not ran.stdout and ran.stderr, ran)
+
+
+def summaries():
+    """The summary of each listing stands in place of its messages; words for patterns are as without it."""
+    for name, words in (("race", ""), ("race", "--order total --max-states 90"), ("pool", "--control first"), ("send_hi", "--random 9")):
+        script, options = script_of(name), shlex.split(words)
+        plain, ran = (run(["explore", *options, *form], script) for form in ([], ["--summary"]))
+        wanted = ""
+        for entries, end in searches(plain.stdout.decode()):
+            for number, (journal, text) in enumerate(entries, 1):
+                wanted += f"== listing {number} of {len(entries)}: journal {journal}".rstrip() + "\n" + summary(text.encode()).decode()
+            wanted += end[0]
+        good = (ran.stdout.decode(), ran.returncode, ran.stderr) == (wanted, plain.returncode, plain.stderr)
+        check(f"explore --summary {words} of {name}", good, (wanted, ran))
+    patterns = ["--shows", "'_'", "--never", "{trace,'_',send,'_','_'}"]
+    plain, ran = (run(["explore", *patterns, *form], script_of("race")) for form in ([], ["--summary"]))
+    same = (ran.stdout, ran.returncode) == (plain.stdout, plain.returncode)
+    check("explore --summary with patterns", same, ran)
+    ran = run(["explore", "--summary", "--json"], SEND_HI)
+    check("explore --summary --json", ran.returncode == 2 and not ran.stdout and ran.stderr, ran)
 
 
 def exploration_json():

@@ -82,6 +82,8 @@ SUBJECTS = {
         exploration_cases.bad_patterns,
         exploration_cases.bad_explorations,
         exploration_cases.exploration_json,
+        exploration_cases.random_runs,
+        exploration_cases.summaries,
     ),
     "comparison": (
         comparison_cases.comparisons,

@@ -11,6 +11,8 @@ use Rattle.def_explore.specs.Answers.{RestEntry}
 use Rattle.def_compare.specs.Traces.{TraceQuestion, trace_processes, orders_in, prefix_pairs, shown_pairs}
 use Rattle.def_compare.specs.Entries.{possible_by}
 use Rattle.def_compare.specs.Output.{comparison_text, message_there}
+use Rattle.def_compare.specs.Answers.{about_patterns}
+use Rattle.def_compare.specs.AnswerRows.{answer_in, summary_answer}
 
 -- {trace,Pid,'receive',N}
 abbrev message : ℕ → ℕ → Tree
@@ -98,3 +100,8 @@ text_of_unknown = refl
 text_of_none : comparison_text with_tracer (trace printed) [] 1 false ≡ codes "== session s tracer t\nunknown: no run to rest was met\n== explored\nnot complete: 1 state was met\n"
 unfolding is_written_bare digits
 text_of_none = refl
+
+-- three messages of 29 bytes
+text_of_summary : answer_in summary_answer with_tracer (about_patterns []) (record { kept = shown; journal = 101 ∷ 100 ∷ [] } ∷ []) 9 true ≡ codes "== listing 1 of 1: journal 101 100\n== session s tracer t\n'receive': messages 3, bytes 87\ntotal: messages 3, bytes 87\ngreatest: bytes 29, line 1, {trace,<0.100.0>,'receive',1}\n== explored\ncomplete: 9 states, 1 listing\n"
+unfolding is_written_bare digits
+text_of_summary = refl

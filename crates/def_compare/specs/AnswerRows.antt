@@ -1,6 +1,6 @@
 -- What a search answers as JSON, a value a line (own).
 -- Depends on entries, words and comparisons, and on the JSON rows of an output.
-use Rattle.std.specs.Prelude.{◌-◌, ℕ, suc, Bool, List, [], ◌∷◌, ◌++◌, Option, Some, None, length, map, take, slice_get, codes}
+use Rattle.std.specs.Prelude.{◌-◌, ℕ, suc, Bool, true, List, [], ◌∷◌, ◌++◌, Option, Some, None, length, map, take, slice_get, codes}
 use Rattle.std.specs.Option.{option_map_or}
 use Rattle.json.specs.Json.{Json, null, boolean, array}
 use Rattle.def_term.specs.Tree.{Tree, pid}
@@ -14,6 +14,7 @@ use Rattle.def_compare.specs.Traces.{TraceQuestion, count_in}
 use Rattle.def_compare.specs.Entries.{Match, Prefix, possible_by, longest_prefix}
 use Rattle.def_compare.specs.Output.{message_there, no_match_word}
 use Rattle.def_compare.specs.Answers.{SearchQuestion, about_patterns, about_trace, answer_text}
+use Rattle.def_compare.specs.AnswerSummaries.{answer_text_in}
 
 -- [PICK,..]
 abbrev pub picks_value : List ℕ → Json
@@ -139,12 +140,14 @@ answer_json ss q es states whole = json_lines (answer_rows ss q es states whole)
 
 -- ---- forms
 
--- lines for a reader, or JSON
+-- lines for a reader, with the listings or with their summary; or JSON
 pub data AnswerForm : Type 0 where
   plain_answer : AnswerForm
+  summary_answer : AnswerForm
   json_answer : AnswerForm
 
 -- the answer in a form
 abbrev pub answer_in : AnswerForm → List (Name × Name) → SearchQuestion → List RestEntry → ℕ → Bool → List ℕ
 answer_in plain_answer ss q es states whole = answer_text ss q es states whole
+answer_in summary_answer ss q es states whole = answer_text_in true ss q es states whole
 answer_in json_answer ss q es states whole = answer_json ss q es states whole

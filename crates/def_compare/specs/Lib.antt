@@ -4,4 +4,5 @@ pub mod InOrder
 pub mod Laws
 pub mod Output
 pub mod Answers
+pub mod AnswerSummaries
 pub mod AnswerRows

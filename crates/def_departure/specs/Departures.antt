@@ -8,7 +8,7 @@ use Rattle.def_explore.specs.Answers.{RestEntry}
 use Rattle.def_compare.specs.Traces.{TraceQuestion, begins_trace}
 use Rattle.def_compare.specs.Entries.{Match, Prefix, possible_by, longest_prefix}
 use Rattle.def_compare.specs.Answers.{SearchQuestion, about_patterns, about_trace}
-use Rattle.def_compare.specs.AnswerRows.{AnswerForm, plain_answer, json_answer}
+use Rattle.def_compare.specs.AnswerRows.{AnswerForm, json_answer}
 
 -- the journal of a run, where what is kept of it doesn't begin the trace any more
 abbrev pub departure_by : TraceQuestion → Option Prefix → Option (List ℕ)
@@ -20,6 +20,7 @@ abbrev pub departure_unless : Option Match → TraceQuestion → List RestEntry 
 departure_unless (Some m) a es = None
 departure_unless None a es = departure_by a (longest_prefix a.messages es (length a.messages))
 
+-- that of what a search is asked; about patterns there is none
 abbrev pub departure_of : SearchQuestion → List RestEntry → Option (List ℕ)
 departure_of (about_patterns qs) es = None
 departure_of (about_trace a) es = departure_unless (possible_by a es) a es
@@ -37,4 +38,4 @@ last_move_text name p journal = account_text (record { session = name; move = So
 abbrev pub departure_text : AnswerForm → List (Name × Name) → Program → Option (List ℕ) → List ℕ
 departure_text form ss p None = []
 departure_text json_answer ss p (Some journal) = []
-departure_text plain_answer ss p (Some journal) = codes "== explained\n" ++ last_move_text (first_name ss) p journal
+departure_text form ss p (Some journal) = codes "== explained\n" ++ last_move_text (first_name ss) p journal

@@ -1,5 +1,5 @@
 -- Texts of the elements of a list, one after another.
-use Rattle.std.proofs.Common.{◌≡◌, ◌∙◌, ℕ, zero, suc, ◌+◌, ◌<◌, ◌≤◌, List, [], ◌∷◌, ◌++◌, length, drop, map, flat_map, get_or, min, Some, None, refl, sym, ap, append_assoc, append-nil, arith, add-one}
+use Rattle.std.proofs.Common.{◌≡◌, ◌∙◌, Bool, ℕ, zero, suc, ◌+◌, ◌<◌, ◌≤◌, List, [], ◌∷◌, ◌++◌, length, drop, map, flat_map, get_or, min, Some, None, refl, sym, ap, append_assoc, append-nil, arith, add-one}
 use Rattle.std.proofs.lemmas.Grind.{flat_map-append}
 use Rattle.std.specs.Prelude.{slice_get}
 use Rattle.std.specs.declared.vec.Vec.{Vec}
@@ -9,7 +9,8 @@ use Rattle.def_term.specs.Tree.{Tree}
 use Rattle.def_run.specs.Listing.{header_line, lines_of}
 use Rattle.def_explore.specs.Rests.{kept_messages}
 use Rattle.def_explore.specs.Answers.{RestEntry}
-use Rattle.def_explore.specs.Output.{session_texts, rest_entry_text, rest_entry_texts}
+use Rattle.def_explore.specs.Output.{session_texts}
+use Rattle.def_compare.specs.AnswerSummaries.{entry_text_in, entry_texts_in}
 use Rattle.tn_explore.specs.Searches.{answer_entry, answer_entries}
 use Rattle.tn_messages.specs.MessageViews.{kept_seen}
 use Rattle.tn_messages.specs.declared.kept_listings.KeptListings.{KeptListings}
@@ -89,14 +90,14 @@ seven_parts n0 n1 n2 n3 n4 n5 n6 n7 a b c d e f g h1 h2 h3 h4 h5 h6 h7 =
 
 -- ---- entries
 
-pub entry_more : (ss : List (Name × Name)) (count : ℕ) (es : List RestEntry) (i : ℕ) (e : RestEntry) (now after whole : List ℕ) → i < length es → e ≡ get_or es i e → now ++ rest_entry_texts ss count (i + 1) (drop i es) ≡ whole
-    → after ≡ now ++ rest_entry_text ss count (i + 1) e → after ++ rest_entry_texts ss count (i + 1 + 1) (drop (i + 1) es) ≡ whole
-entry_more ss count es i e now after whole below is so_far made =
-    ap (λ x. x ++ rest_entry_texts ss count (i + 1 + 1) (drop (i + 1) es)) made
-    ∙ append_assoc now (rest_entry_text ss count (i + 1) e) (rest_entry_texts ss count (i + 1 + 1) (drop (i + 1) es))
-    ∙ ap (λ (x : RestEntry). now ++ (rest_entry_text ss count (i + 1) x ++ rest_entry_texts ss count (i + 1 + 1) (drop (i + 1) es))) is
-    ∙ ap (λ k. now ++ (rest_entry_text ss count (i + 1) (get_or es i e) ++ rest_entry_texts ss count k (drop (i + 1) es))) (add-one (i + 1))
-    ∙ ap (λ (xs : List RestEntry). now ++ rest_entry_texts ss count (i + 1) xs) (sym (drop_more es i e below))
+pub entry_more : (b : Bool) (ss : List (Name × Name)) (count : ℕ) (es : List RestEntry) (i : ℕ) (e : RestEntry) (now after whole : List ℕ) → i < length es → e ≡ get_or es i e → now ++ entry_texts_in b ss count (i + 1) (drop i es) ≡ whole
+    → after ≡ now ++ entry_text_in b ss count (i + 1) e → after ++ entry_texts_in b ss count (i + 1 + 1) (drop (i + 1) es) ≡ whole
+entry_more b ss count es i e now after whole below is so_far made =
+    ap (λ x. x ++ entry_texts_in b ss count (i + 1 + 1) (drop (i + 1) es)) made
+    ∙ append_assoc now (entry_text_in b ss count (i + 1) e) (entry_texts_in b ss count (i + 1 + 1) (drop (i + 1) es))
+    ∙ ap (λ (x : RestEntry). now ++ (entry_text_in b ss count (i + 1) x ++ entry_texts_in b ss count (i + 1 + 1) (drop (i + 1) es))) is
+    ∙ ap (λ k. now ++ (entry_text_in b ss count (i + 1) (get_or es i e) ++ entry_texts_in b ss count k (drop (i + 1) es))) (add-one (i + 1))
+    ∙ ap (λ (xs : List RestEntry). now ++ entry_texts_in b ss count (i + 1) xs) (sym (drop_more es i e below))
     ∙ so_far
 
 no_entry : RestEntry
@@ -108,13 +109,13 @@ entry_there (e ∷ es) zero d below = refl
 entry_there (e ∷ es) (suc i) d below = entry_there es i d (omega arith)
 
 -- where what is written is the text of whichever entry is there
-pub entry_at_more : (ss : List (Name × Name)) (count : ℕ) (es : List RestEntry) (i : ℕ) (now after whole : List ℕ) → i < length es → now ++ rest_entry_texts ss count (i + 1) (drop i es) ≡ whole
-    → ((e : RestEntry) → slice_get es i ≡ Some e → after ≡ now ++ rest_entry_text ss count (i + 1) e) → after ++ rest_entry_texts ss count (i + 1 + 1) (drop (i + 1) es) ≡ whole
-entry_at_more ss count es i now after whole below so_far made =
-    entry_more ss count es i (get_or es i no_entry) now after whole below (get_or_default es i no_entry (get_or es i no_entry) below) so_far (made (get_or es i no_entry) (entry_there es i no_entry below))
+pub entry_at_more : (b : Bool) (ss : List (Name × Name)) (count : ℕ) (es : List RestEntry) (i : ℕ) (now after whole : List ℕ) → i < length es → now ++ entry_texts_in b ss count (i + 1) (drop i es) ≡ whole
+    → ((e : RestEntry) → slice_get es i ≡ Some e → after ≡ now ++ entry_text_in b ss count (i + 1) e) → after ++ entry_texts_in b ss count (i + 1 + 1) (drop (i + 1) es) ≡ whole
+entry_at_more b ss count es i now after whole below so_far made =
+    entry_more b ss count es i (get_or es i no_entry) now after whole below (get_or_default es i no_entry (get_or es i no_entry) below) so_far (made (get_or es i no_entry) (entry_there es i no_entry below))
 
-pub entries_end : (ss : List (Name × Name)) (count : ℕ) (es : List RestEntry) (i : ℕ) (now whole : List ℕ) → length es ≤ i → now ++ rest_entry_texts ss count (i + 1) (drop i es) ≡ whole → now ≡ whole
-entries_end ss count es i now whole past so_far = sym (append-nil now) ∙ ap (λ (xs : List RestEntry). now ++ rest_entry_texts ss count (i + 1) xs) (sym (drop_all i es past)) ∙ so_far
+pub entries_end : (b : Bool) (ss : List (Name × Name)) (count : ℕ) (es : List RestEntry) (i : ℕ) (now whole : List ℕ) → length es ≤ i → now ++ entry_texts_in b ss count (i + 1) (drop i es) ≡ whole → now ≡ whole
+entries_end b ss count es i now whole past so_far = sym (append-nil now) ∙ ap (λ (xs : List RestEntry). now ++ entry_texts_in b ss count (i + 1) xs) (sym (drop_all i es past)) ∙ so_far
 
 pub never_seen : {A : Type 0} {Q : Type 0} (pairs : List (KeptListings A × Vec ℕ A)) (i : ℕ) (e : RestEntry) → slice_get pairs i ≡ None → slice_get (answer_entries kept_seen pairs) i ≡ Some e → Q
 never_seen [] zero e is at = cc
@@ -122,10 +123,10 @@ never_seen [] (suc i) e is at = cc
 never_seen (p ∷ pairs) zero e is at = cc
 never_seen (p ∷ pairs) (suc i) e is at = never_seen pairs i e is at
 
-pub entry_written : {A : Type 0} (ss : List (Name × Name)) (count n : ℕ) (pairs : List (KeptListings A × Vec ℕ A)) (i : ℕ) (kept : KeptListings A) (journal : Vec ℕ A) (picks now after : List ℕ) (e : RestEntry) → Some (kept, journal) ≡ slice_get pairs i → slice_get (answer_entries kept_seen pairs) i ≡ Some e
-    → picks ≡ journal.items → after ≡ now ++ rest_entry_text ss count n (record { kept = kept_seen kept; journal = picks }) → after ≡ now ++ rest_entry_text ss count n e
-entry_written ss count n pairs i kept journal picks now after e is at same made =
-    made ∙ ap (λ (x : RestEntry). now ++ rest_entry_text ss count n x) ((λ i. record { kept = kept_seen kept; journal = same i }) ∙ entry_is pairs i (kept, journal) e (sym is) at)
+pub entry_written : {A : Type 0} (b : Bool) (ss : List (Name × Name)) (count n : ℕ) (pairs : List (KeptListings A × Vec ℕ A)) (i : ℕ) (kept : KeptListings A) (journal : Vec ℕ A) (picks now after : List ℕ) (e : RestEntry) → Some (kept, journal) ≡ slice_get pairs i → slice_get (answer_entries kept_seen pairs) i ≡ Some e
+    → picks ≡ journal.items → after ≡ now ++ entry_text_in b ss count n (record { kept = kept_seen kept; journal = picks }) → after ≡ now ++ entry_text_in b ss count n e
+entry_written b ss count n pairs i kept journal picks now after e is at same made =
+    made ∙ ap (λ (x : RestEntry). now ++ entry_text_in b ss count n x) ((λ i. record { kept = kept_seen kept; journal = same i }) ∙ entry_is pairs i (kept, journal) e (sym is) at)
 
 pub count_is : {A : Type 0} (pairs : List (KeptListings A × Vec ℕ A)) (n : ℕ) → n ≡ length pairs → n ≡ length (answer_entries kept_seen pairs)
 count_is pairs n is = is ∙ sym (length-map pairs (answer_entry kept_seen))

@@ -1,13 +1,14 @@
 -- What a search answers, as text.
 -- Depends on the texts of words, of listings and of comparisons.
-use Rattle.std.specs.Prelude.{◌≡◌, ◌++◌, ◌∷◌, [], false, length, List, map}
+use Rattle.std.specs.Prelude.{◌≡◌, ◌++◌, ◌∷◌, [], Bool, false, length, List, map}
 use Rattle.std.specs.List.{list_any}
 use Rattle.def_explore.specs.Output.{words_text}
 use Rattle.def_explore.specs.Words.{refutes}
 use Rattle.def_compare.specs.Answers as definition
 use Rattle.def_compare.specs.Answers.{about_patterns, about_trace, is_unmet, is_settled}
 use Rattle.def_compare.specs.AnswerRows as rows
-use Rattle.def_compare.specs.AnswerRows.{answer_in, asked_row, explored_row, json_answer, pattern_row, plain_answer, search_rows}
+use Rattle.def_compare.specs.AnswerRows.{answer_in, asked_row, explored_row, json_answer, pattern_row, plain_answer, search_rows, summary_answer}
+use Rattle.def_compare.specs.AnswerSummaries.{answer_text_in}
 use Rattle.def_formats.specs.JsonRows.{json_lines}
 use Rattle.tn_comparison.specs.Matches.{trace_question_seen}
 use Rattle.tn_explore.specs.Searches.{answer_entries}
@@ -19,7 +20,7 @@ use Rattle.tn_messages.specs.declared.kept_listings.KeptListings.{KeptListings}
 use Rattle.tn_answers.specs.AnswerViews.{session_name_seen}
 use Rattle.tn_answers.specs.declared.entry.SessionName.{SessionName}
 use Rattle.tn_answers.specs.declared.form.AnswerForm.{AnswerForm}
-use Rattle.tn_answers.specs.declared.form.AnswerForm.TheVariants.{Plain, Json}
+use Rattle.tn_answers.specs.declared.form.AnswerForm.TheVariants.{Plain, Summary, Json}
 use Rattle.tn_answers.specs.declared.text.SearchAnswer.{SearchAnswer}
 use Rattle.tn_answers.specs.declared.text.SearchQuestion.{SearchQuestion}
 use Rattle.tn_answers.specs.declared.text.SearchQuestion.TheVariants.{Patterns, Trace}
@@ -47,9 +48,16 @@ pub record IsWordsAnswer {A P : Type 0} (ss : List (SessionName A)) (qs : List (
   pub unmet : a.is_unmet ≡ list_any (refutes (answer_entries kept_seen e.answers.entries) e.is_complete) (map pattern_question_seen qs)
   pub settled : a.is_settled ≡ e.is_complete
 
+-- the text for what is asked as lines for a reader, with the listings or with their summary, and how the search ends
+pub record IsLinesAnswer {A N : Type 0} (is_summary : Bool) (ss : List (SessionName N)) (q : definition.SearchQuestion) (e : Exploration A (KeptListings A)) (a : SearchAnswer A) : Type 0 where
+  pub text : a.text.items ≡ answer_text_in is_summary (map session_name_seen ss) q (answer_entries kept_seen e.answers.entries) e.states e.is_complete
+  pub unmet : a.is_unmet ≡ is_unmet q (answer_entries kept_seen e.answers.entries) e.is_complete
+  pub settled : a.is_settled ≡ is_settled q (answer_entries kept_seen e.answers.entries) e.is_complete
+
 -- the form of an answer
 abbrev pub form_seen : AnswerForm → rows.AnswerForm
 form_seen Plain = plain_answer
+form_seen Summary = summary_answer
 form_seen Json = json_answer
 
 -- the text for what is asked in a form, and how the search ends

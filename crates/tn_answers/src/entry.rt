@@ -1,13 +1,18 @@
 // An entry with its listings.
-ghost use Rattle.std.specs.Prelude.{◌≡◌, ◌++◌, ◌∷◌, ◌+◌, ◌<◌, OnOk, map, decimal};
+ghost use Rattle.std.specs.Prelude.{◌≡◌, ◌++◌, ◌∷◌, ◌+◌, ◌<◌, OnOk, Some, map, decimal, slice_get, true};
 ghost use Rattle.def_run.specs.Listing.{header_line};
 ghost use Rattle.def_explore.specs.Rests.{kept_messages, kept_by_process};
-ghost use Rattle.def_explore.specs.Output.{entry_line, rest_entry_text, kept_listings, session_texts, spaced_picks};
+ghost use Rattle.def_explore.specs.Answers.{RestEntry};
+ghost use Rattle.def_explore.specs.Output.{entry_line, kept_listings, session_texts, spaced_picks};
+ghost use Rattle.def_compare.specs.AnswerSummaries.{entry_text_in, listings_in};
+ghost use Rattle.tn_explore.specs.Searches.{answer_entries};
 ghost use Rattle.tn_messages.specs.MessageViews.{kept_seen, trees_seen, lists_seen};
 ghost use Rattle.tn_answers.specs.AnswerViews.{session_name_seen};
 
 use crate::lines::Listing;
 use std::alloc::{AllocError, Allocator};
+use tn_explore::Answers;
+use tn_formats::{Format, in_format};
 use tn_messages::{KeptListings, MessageList};
 use tn_term::Atom;
 use tn_text::{write_atom, write_decimal};
@@ -127,19 +132,58 @@ fn put_kept<A: Allocator, B: Allocator>(
     }
 }
 
-/// Appends an entry of so many, which has this number from 0.
-pub(crate) fn put_entry<A: Allocator, B: Allocator>(
+/// Appends the summary of what is kept, as that of an output.
+fn put_summary<A: Allocator + Copy, B: Allocator>(
+    alloc: A,
     sessions: &[SessionName<A>],
-    place: (usize, usize),
     kept: &KeptListings<A>,
-    journal: &[u32],
+    out: &mut Vec<u8, B>,
+) -> Result<(), AllocError>
+    ensures { let ss = map session_name_seen sessions.now in
+        OnOk result (out.new.items ≡ out.old.items ++ listings_in true ss (kept_listings (kept_seen kept.now))) }
+{
+    let mut listings = Vec::new(alloc);
+    put_kept(sessions, kept, &mut listings)?;
+    let summary = in_format(alloc, Format::Summary, &listings)?;
+    out.extend_from_slice(&summary)?;
+    Ok(())
+}
+
+/// Appends what is kept, or its summary.
+fn put_listings<A: Allocator + Copy, B: Allocator>(
+    alloc: A,
+    sessions: &[SessionName<A>],
+    kept: &KeptListings<A>,
+    is_summary: bool,
+    out: &mut Vec<u8, B>,
+) -> Result<(), AllocError>
+    ensures { let ss = map session_name_seen sessions.now in OnOk result
+        (out.new.items ≡ out.old.items ++ listings_in is_summary ss (kept_listings (kept_seen kept.now))) }
+{
+    if is_summary {
+        put_summary(alloc, sessions, kept, out)
+    } else {
+        put_kept(sessions, kept, out)
+    }
+}
+
+/// Appends the entry at a place of so many.
+pub(crate) fn put_entry_at<A: Allocator + Copy, B: Allocator>(
+    alloc: A,
+    sessions: &[SessionName<A>],
+    answers: &Answers<A, KeptListings<A>>,
+    place: (usize, usize),
+    is_summary: bool,
     out: &mut Vec<u8, B>,
 ) -> Result<(), AllocError>
     requires { place.0 < place.1 }
-    ensures { OnOk result (out.new.items ≡ out.old.items ++ rest_entry_text (map session_name_seen sessions.now)
-        place.1 (place.0 + 1) (record { kept = kept_seen kept.now; journal = journal.now })) }
+    ensures { let ss = map session_name_seen sessions.now in let es = answer_entries kept_seen answers.now.entries in
+        OnOk result ((e : RestEntry) → slice_get es place.0 ≡ Some e →
+        out.new.items ≡ out.old.items ++ entry_text_in is_summary ss place.1 (place.0 + 1) e) }
 {
+    let Some((kept, journal)) = answers.get_index(place.0) else {
+        return Ok(());
+    };
     put_entry_line(place.0 + 1, place.1, journal, out)?;
-    put_kept(sessions, kept, out)?;
-    Ok(())
+    put_listings(alloc, sessions, kept, is_summary, out)
 }

@@ -4,7 +4,7 @@ ghost use Rattle.tn_answers.specs.SearchAnswers.{IsSearchAnswer, form_seen, sear
 
 use crate::answer_rows::json_answer;
 use crate::entry::SessionName;
-use crate::text::{SearchAnswer, SearchQuestion, plain_answer};
+use crate::text::{SearchAnswer, SearchQuestion, lines_answer};
 use std::alloc::{AllocError, Allocator};
 use tn_explore::Exploration;
 use tn_messages::KeptListings;
@@ -14,6 +14,8 @@ use tn_messages::KeptListings;
 pub enum AnswerForm {
     /// Lines for a reader.
     Plain,
+    /// Those with the summary of each listing in place of its messages.
+    Summary,
     /// JSON, a value a line.
     Json,
 }
@@ -35,7 +37,8 @@ pub fn search_answer<A: Allocator + Copy, P: Allocator>(
         IfOk result (IsSearchAnswer (form_seen form) sessions.now q exploration.now) }
 {
     match form {
-        AnswerForm::Plain => plain_answer(alloc, sessions, question, exploration),
+        AnswerForm::Plain => lines_answer(alloc, sessions, question, exploration, false),
+        AnswerForm::Summary => lines_answer(alloc, sessions, question, exploration, true),
         AnswerForm::Json => json_answer(alloc, sessions, question, exploration),
     }
 }

@@ -1,18 +1,17 @@
 // The text of what an exploration answers.
-ghost use Rattle.std.specs.Prelude.{◌≡◌, ◌++◌, ◌+◌, ◌<◌, IfOk, OnOk, Some, codes, flat_map, length, map, slice_get};
-ghost use Rattle.def_explore.specs.Answers.{RestEntry};
-ghost use Rattle.def_explore.specs.Output.{closing_line, exploration_text, rest_entry_text, rest_entry_texts};
+ghost use Rattle.std.specs.Prelude.{◌≡◌, ◌++◌, Bool, IfOk, OnOk, codes, flat_map, length, map};
+ghost use Rattle.def_explore.specs.Output.{closing_line};
+ghost use Rattle.def_compare.specs.AnswerSummaries.{entry_texts_in, exploration_text_in};
 ghost use Rattle.def_compare.specs.Answers.{about_patterns, about_trace};
 ghost use Rattle.tn_explore.specs.Searches.{answer_entries};
 ghost use Rattle.tn_messages.specs.MessageViews.{kept_seen};
 ghost use Rattle.tn_answers.specs.AnswerViews.{session_header, session_name_seen};
-ghost use Rattle.tn_answers.specs.SearchAnswers.{IsSearchAnswer, IsWordsAnswer, search_question_seen};
-ghost use Rattle.def_compare.specs.AnswerRows.{plain_answer};
+ghost use Rattle.tn_answers.specs.SearchAnswers.{IsLinesAnswer, IsWordsAnswer, search_question_seen};
 ghost use Rattle.tn_comparison.specs.Matches.{trace_question_seen};
 ghost use Rattle.tn_message_pattern.specs.Questions.{pattern_question_seen};
 
 use crate::comparison::{is_impossible, is_settled, put_match};
-use crate::entry::{SessionName, put_entry, put_header};
+use crate::entry::{SessionName, put_entry_at, put_header};
 use crate::last_line::put_closing;
 use crate::words::put_patterns;
 use std::alloc::{AllocError, Allocator};
@@ -21,37 +20,20 @@ use tn_explore::{Answers, Exploration};
 use tn_message_pattern::PatternQuestion;
 use tn_messages::KeptListings;
 
-/// Appends the entry at a place of so many.
-fn put_entry_at<A: Allocator, B: Allocator>(
-    sessions: &[SessionName<A>],
-    answers: &Answers<A, KeptListings<A>>,
-    place: (usize, usize),
-    out: &mut Vec<u8, B>,
-) -> Result<(), AllocError>
-    requires { place.0 < place.1 }
-    ensures { let ss = map session_name_seen sessions.now in let es = answer_entries kept_seen answers.now.entries in
-        OnOk result ((e : RestEntry) → slice_get es place.0 ≡ Some e →
-        out.new.items ≡ out.old.items ++ rest_entry_text ss place.1 (place.0 + 1) e) }
-{
-    let Some((kept, journal)) = answers.get_index(place.0) else {
-        return Ok(());
-    };
-    put_entry(sessions, place, kept, journal, out)?;
-    Ok(())
-}
-
 /// Appends the entries, each with its number.
-fn put_entries<A: Allocator, B: Allocator>(
+fn put_entries<A: Allocator + Copy, B: Allocator>(
+    alloc: A,
     sessions: &[SessionName<A>],
     answers: &Answers<A, KeptListings<A>>,
+    is_summary: bool,
     out: &mut Vec<u8, B>,
 ) -> Result<(), AllocError>
     ensures { let ss = map session_name_seen sessions.now in let es = answer_entries kept_seen answers.now.entries in
-        OnOk result (out.new.items ≡ out.old.items ++ rest_entry_texts ss (length es) 1 es) }
+        OnOk result (out.new.items ≡ out.old.items ++ entry_texts_in is_summary ss (length es) 1 es) }
 {
     let count = answers.len();
     for number in 0..count {
-        put_entry_at(sessions, answers, (number, count), out)?;
+        put_entry_at(alloc, sessions, answers, (number, count), is_summary, out)?;
     }
     Ok(())
 }
@@ -75,13 +57,14 @@ fn exploration_text<A: Allocator + Copy>(
     alloc: A,
     sessions: &[SessionName<A>],
     exploration: &Exploration<A, KeptListings<A>>,
+    is_summary: bool,
 ) -> Result<Vec<u8, A>, AllocError>
     ensures { let es = answer_entries kept_seen exploration.now.answers.entries in
-        IfOk result (λ v. v.items ≡ exploration_text (map session_name_seen sessions.now) es
+        IfOk result (λ v. v.items ≡ exploration_text_in is_summary (map session_name_seen sessions.now) es
         exploration.now.states exploration.now.is_complete) }
 {
     let mut text = Vec::new(alloc);
-    put_entries(sessions, &exploration.answers, &mut text)?;
+    put_entries(alloc, sessions, &exploration.answers, is_summary, &mut text)?;
     put_explored(exploration, &mut text)?;
     Ok(text)
 }
@@ -144,13 +127,14 @@ fn patterns_answer<A: Allocator + Copy, P: Allocator>(
     sessions: &[SessionName<A>],
     questions: &[PatternQuestion<P>],
     exploration: &Exploration<A, KeptListings<A>>,
+    is_summary: bool,
 ) -> Result<SearchAnswer<A>, AllocError>
     ensures { let asked = about_patterns (map pattern_question_seen questions.now) in
-        IfOk result (IsSearchAnswer plain_answer sessions.now asked exploration.now) }
+        IfOk result (IsLinesAnswer is_summary sessions.now asked exploration.now) }
 {
     if questions.is_empty() {
         return Ok(SearchAnswer {
-            text: exploration_text(alloc, sessions, exploration)?,
+            text: exploration_text(alloc, sessions, exploration, is_summary)?,
             is_unmet: false,
             is_settled: exploration.is_complete,
         });
@@ -166,7 +150,7 @@ fn trace_answer<A: Allocator + Copy, P: Allocator>(
     exploration: &Exploration<A, KeptListings<A>>,
 ) -> Result<SearchAnswer<A>, AllocError>
     ensures { let asked = about_trace (trace_question_seen question.now) in
-        IfOk result (IsSearchAnswer plain_answer sessions.now asked exploration.now) }
+        IfOk result (λ a. (b : Bool) → IsLinesAnswer b sessions.now asked exploration.now a) }
 {
     let mut text = Vec::new(alloc);
     put_headers(sessions, &mut text)?;
@@ -179,15 +163,16 @@ fn trace_answer<A: Allocator + Copy, P: Allocator>(
     })
 }
 
-/// What an exploration of these sessions answers, as lines for a reader.
-pub(crate) fn plain_answer<A: Allocator + Copy, P: Allocator>(
+/// What an exploration of these sessions answers, as lines for a reader, with the listings or with their summary.
+pub(crate) fn lines_answer<A: Allocator + Copy, P: Allocator>(
     alloc: A,
     sessions: &[SessionName<A>],
     question: &SearchQuestion<'_, P>,
     exploration: &Exploration<A, KeptListings<A>>,
+    is_summary: bool,
 ) -> Result<SearchAnswer<A>, AllocError>
     ensures { IfOk result
-        (IsSearchAnswer plain_answer sessions.now (search_question_seen question.now) exploration.now) }
+        (IsLinesAnswer is_summary sessions.now (search_question_seen question.now) exploration.now) }
 {
     match question {
         SearchQuestion::Patterns(questions) => patterns_answer(
@@ -195,6 +180,7 @@ pub(crate) fn plain_answer<A: Allocator + Copy, P: Allocator>(
             sessions,
             questions,
             exploration,
+            is_summary,
         ),
         SearchQuestion::Trace(question) => trace_answer(alloc, sessions, question, exploration),
     }

@@ -12,6 +12,7 @@ use Rattle.tn_answers.specs.declared.form.AnswerForm.{AnswerForm}
 use Rattle.tn_answers.specs.declared.form.AnswerForm.TheVariants as forms
 use Rattle.clap.specs.Words.{found_of, first_value, matched_of, raw_values, rows_of, subcommand_name_of, subcommand_rows_of}
 use Rattle.tn_explain.specs.declared.filter.Filter.{Filter}
+use Rattle.tn_exploration.specs.declared.request.RandomRuns.{RandomRuns}
 use Rattle.tn_command.specs.declared.source.Source.{Source}
 use Rattle.tn_command.specs.declared.source.Source.TheVariants.{Input, File}
 use Rattle.tn_expectation.specs.Expectations.{words_of}
@@ -185,7 +186,28 @@ abbrev pub form_given : Bool → AnswerForm
 form_given true = forms.Json
 form_given false = forms.Plain
 
--- the script, the first moves, what `--order` and `--session` name, the patterns, the number of `--max-states`, and the form
+-- that of listings, which may be their summary
+abbrev pub listings_form_given : (is_summary is_json : Bool) → AnswerForm
+listings_form_given true is_json = forms.Summary
+listings_form_given false is_json = form_given is_json
+
+-- so many random runs with this seed, or with 0
+abbrev pub random_runs : (runs seed : Option ℕ) → Option RandomRuns
+random_runs None seed = None
+random_runs (Some n) seed = Some (record { runs = n; seed = unwrap_or seed 0 })
+
+-- the random runs that `--random` and `--seed` ask for
+abbrev pub AreRandomRunsOf : ArgMatches → Option RandomRuns → Type 0
+AreRandomRunsOf m r =
+    (runs : Option ℕ) × (seed : Option ℕ) × IsNumberOrNone {E = Unit {0}} (argument m (codes "random")) (Ok runs)
+    × IsNumberOrNone {E = Unit {0}} (argument m (codes "seed")) (Ok seed) × (r ≡ random_runs runs seed)
+
+-- one of the two is given, and isn't a number
+abbrev pub LacksRandomNumber : ArgMatches → Type 0
+LacksRandomNumber m =
+    IsSomeAnd (argument m (codes "random")) (λ text. ¬ (IsPlainNumber text)) ⊎ IsSomeAnd (argument m (codes "seed")) (λ text. ¬ (IsPlainNumber text))
+
+-- the script, the first moves, what `--order` and `--session` name, the patterns, the number of `--max-states`, the random runs, and the form
 abbrev pub IsExplorationOf : ArgMatches → ExploreArgs → Type 0
 IsExplorationOf m x =
     IsSourceNamed (argument m (codes "script")) x.script
@@ -198,7 +220,8 @@ IsExplorationOf m x =
     × (words_of x.sometimes.now ≡ texts_given m (codes "sometimes"))
     × (x.trace ≡ None)
     × IsGiven 1 4294967295 (argument m (codes "max-states")) x.max_states
-    × (x.form ≡ form_given (is_given m (codes "json")))
+    × AreRandomRunsOf m x.random
+    × (x.form ≡ listings_form_given (is_given m (codes "summary")) (is_given m (codes "json")))
 
 -- it is about no pattern
 pub record IsAboutNoPattern (x : ExploreArgs) : Type 0 where
@@ -218,6 +241,7 @@ IsComparisonOf m x =
     × IsTextOf (argument m (codes "trace")) x.trace
     × (x.goes_on ≡ is_given m (codes "prefix"))
     × IsGiven 1 4294967295 (argument m (codes "max-states")) x.max_states
+    × (x.random ≡ None)
     × (x.form ≡ form_given (is_given m (codes "json")))
 
 -- a source that is given is the one that the text names
@@ -287,6 +311,7 @@ LacksNumber name m =
     ⊎ ((name ≡ codes "workers") × IsSomeAnd (argument m (codes "spread")) (λ text. ¬ (IsPlainNumber text)))
     ⊎ ((name ≡ codes "spec") × NamesNoProcess (unwrap_or (argument m (codes "me")) []))
     ⊎ ((name ≡ codes "explore") × (¬ (IsBetween 1 4294967295 (argument m (codes "max-states")))))
+    ⊎ ((name ≡ codes "explore") × LacksRandomNumber m)
     ⊎ ((name ≡ codes "compare") × (¬ (IsBetween 1 4294967295 (argument m (codes "max-states")))))
 
 -- the subcommand that was found lacks a number

@@ -5,6 +5,7 @@ ghost use Rattle.tn_cli.specs.Requests.{number_given, IsNumberOrNone};
 ghost use Rattle.tn_cli.specs.Requests.{NamesProcess, NamesNoProcess, ArePicksOf, IsSourceNamed, Asks, IsAskedBy};
 ghost use Rattle.tn_cli.specs.Requests.{LacksLimit, LacksNumber, IsWithoutNumber, NamesNoCommand};
 ghost use Rattle.tn_cli.specs.Requests.{IsRunOf, takes_control_first, first_moves, form_given, order_named};
+ghost use Rattle.tn_cli.specs.Requests.{AreRandomRunsOf, LacksRandomNumber, listings_form_given, random_runs};
 ghost use Rattle.tn_expectation.specs.Expectations.{words_of};
 ghost use Rattle.tn_cli.specs.Requests.{IsExpectationOf, IsListingOf, IsSourceOrNone, texts_given};
 
@@ -13,6 +14,7 @@ use clap::ArgMatches;
 use tn_answers::AnswerForm;
 use tn_command::{BadValue, Source, plain_number, source_of};
 use tn_explain::Filter;
+use tn_exploration::RandomRuns;
 use tn_picture::PictureFormat;
 use tn_request::{
     ExpectationArgs, ExploreArgs, FunArgs, PicksSource, Request, RunRequest, RunSource,
@@ -344,7 +346,7 @@ fn listing_order(order: &str) -> ListingOrder
     }
 }
 
-/// The form of an answer: JSON where `--json` is given.
+/// The form of the answer of a comparison: JSON where `--json` is given.
 fn answer_form<'a>(matches: &ArgMatches<'a>) -> AnswerForm
     ensures { result ≡ form_given (is_given matches.now (codes "json")) }
 {
@@ -355,12 +357,45 @@ fn answer_form<'a>(matches: &ArgMatches<'a>) -> AnswerForm
     }
 }
 
+/// The form of the answer of an exploration: also the summary of its listings, where `--summary` is given.
+fn listings_form<'a>(matches: &ArgMatches<'a>) -> AnswerForm
+    ensures { result ≡ listings_form_given (is_given matches.now (codes "summary")) (is_given matches.now (codes "json")) }
+{
+    if flag(matches, "summary") {
+        AnswerForm::Summary
+    } else {
+        answer_form(matches)
+    }
+}
+
+/// The random runs of a number and a seed, where there is a number.
+fn random_runs(runs: Option<u64>, seed: Option<u64>) -> Option<RandomRuns>
+    ensures { result ≡ random_runs runs seed }
+{
+    let runs = runs?;
+    Some(RandomRuns {
+        runs: runs as usize,
+        seed: seed.unwrap_or(0),
+    })
+}
+
+/// The random runs that `--random` and `--seed` ask for.
+fn random<'a>(matches: &ArgMatches<'a>) -> Result<Option<RandomRuns>, BadValue<'a>>
+    ensures asks { IfOk result (AreRandomRunsOf matches.now) }
+    ensures refused { IfErr result (λ e. LacksRandomNumber matches.now) }
+{
+    let runs = number_or_none(matches, "random", "--random <N>")?;
+    let seed = number_or_none(matches, "seed", "--seed <S>")?;
+    Ok(random_runs(runs, seed))
+}
+
 /// What `explore` asks for.
 fn exploration<'s, 'a: 's>(matches: &'s ArgMatches<'a>) -> Result<Request<'s>, BadValue<'s>>
     ensures asks { IfOk result (Asks (codes "explore") matches.now) }
     ensures refused { IfErr result (λ e. LacksNumber (codes "explore") matches.now) }
 {
     let max_states = number(matches, "max-states", "--max-states <N>", 1, 4294967295)?;
+    let random = random(matches)?;
     Ok(Request::Explore(ExploreArgs {
         script: script(matches),
         before: first_moves(matches),
@@ -373,7 +408,8 @@ fn exploration<'s, 'a: 's>(matches: &'s ArgMatches<'a>) -> Result<Request<'s>, B
         trace: None,
         goes_on: false,
         max_states,
-        form: answer_form(matches),
+        random,
+        form: listings_form(matches),
     }))
 }
 
@@ -395,6 +431,7 @@ fn comparison<'s, 'a: 's>(matches: &'s ArgMatches<'a>) -> Result<Request<'s>, Ba
         trace: matches.get_str("trace"),
         goes_on: flag(matches, "prefix"),
         max_states,
+        random: None,
         form: answer_form(matches),
     }))
 }

@@ -5,6 +5,7 @@ ghost use Rattle.tn_command.specs.Delays.{delay_of};
 use std::sync::atomic::{AtomicU64, Ordering};
 use std::thread::yield_now;
 use tn_pool::Gate;
+use tn_random_run::{number_of, seed_after};
 
 /// How often a worker gives way to the others before its first turn, at most.
 const PATIENCE: u32 = 4096;
@@ -47,11 +48,7 @@ impl Start {
     fn delay(seed: u64, turn: u64) -> u64
         ensures { result ≡ delay_of seed turn }
     {
-        let mixed = seed
-            .wrapping_add(turn)
-            .wrapping_mul(6_364_136_223_846_793_005)
-            .wrapping_add(1_442_695_040_888_963_407);
-        ((mixed ^ (mixed >> 29)).wrapping_mul(0x9E37_79B9_7F4A_7C15) >> 33) % 16
+        number_of(seed_after(seed.wrapping_add(turn))) % 16
     }
 
     /// Gives way as the seed says.

@@ -14,7 +14,7 @@ use Rattle.tn_run.specs.Jobs.{JobView, failed_end}
 use Rattle.tn_run.specs.declared.fault.RunFault.{RunFault}
 use Rattle.tn_search.specs.Sessions.{elements_at}
 use Rattle.tn_search.specs.States.{is_by_process}
-use Rattle.tn_exploration.specs.Searches.{SearchText, IsAnswerText}
+use Rattle.tn_exploration.specs.Searches.{SearchText, IsAnswerBy}
 use Rattle.tn_exploration.specs.declared.request.ExploreRequest.{ExploreRequest}
 use Rattle.tn_exploration.specs.declared.request.ExploreOutcome.{ExploreOutcome}
 use Rattle.tn_exploration.specs.declared.searches.SearchEnd.{SearchEnd}
@@ -47,11 +47,11 @@ places_of asked p = places_from asked 0 (creations p.commands)
 
 -- ---- what is written
 
--- the text answers the question about the sessions at these places, by the schedules that begin with a journal, and explains the move by which a run departs from a trace that none shows; it says whether more states could change nothing, and whether a demand is refuted or the trace is impossible
+-- the text answers the question about the sessions at these places, by the schedules that begin with a journal or by random runs that do, and explains the move by which a run departs from a trace that none shows; it says whether more states could change nothing, and whether a demand is refuted or the trace is impossible
 abbrev pub IsSearchText : ExploreRequest → Program → (before places text : List ℕ) → (settled unmet : Bool) → Type 0
 IsSearchText q p before places text settled unmet =
     (answer : List ℕ) × (departure : Option (List ℕ))
-    × IsAnswerText (form_seen q.form) (elements_at places (creations p.commands)) (search_question_seen q.question) (is_by_process q.order) p before places q.max_states (record { text = answer; settled = settled; unmet = unmet }) departure
+    × IsAnswerBy q.random (form_seen q.form) (elements_at places (creations p.commands)) (search_question_seen q.question) (is_by_process q.order) p before places q.max_states (record { text = answer; settled = settled; unmet = unmet }) departure
     × (text ≡ answer ++ departure_text (form_seen q.form) (elements_at places (creations p.commands)) p departure)
 
 -- the texts of searches, each about the sessions at some places, one after another, whether all of them are settled, and whether one is unmet

@@ -13,10 +13,17 @@ use Rattle.def_compare.specs.Answers.{SearchQuestion, about_trace, admits_for, i
 use Rattle.def_compare.specs.AnswerRows.{AnswerForm, answer_in}
 use Rattle.def_departure.specs.Departures.{departure_of}
 use Rattle.tn_answers.specs.declared.text.SearchAnswer.{SearchAnswer}
-use Rattle.tn_explore.specs.Searches.{Explores}
+use Rattle.def_explore.specs.RunsToEnd.{AreSoundWithin, all_runs}
+use Rattle.tn_explore.specs.Searches.{Explores, answer_entries}
+use Rattle.tn_explore.specs.declared.search.Exploration.{Exploration}
+use Rattle.tn_messages.specs.MessageViews.{kept_seen, question_of}
+use Rattle.tn_messages.specs.declared.kept_listings.KeptListings.{KeptListings}
 use Rattle.tn_search.specs.GreedyRuns.{greedy_entry}
+use Rattle.tn_search.specs.RandomRuns.{random_entries_after, random_states_after}
+use Rattle.tn_search.specs.Sessions.{names_at}
 use Rattle.tn_search.specs.States.{query_of}
 use Rattle.tn_exploration.specs.declared.in_order.RunInOrder.{RunInOrder}
+use Rattle.tn_exploration.specs.declared.request.RandomRuns.{RandomRuns}
 
 -- the text of an answer, whether more states could change nothing, and whether a demand is refuted or the trace is impossible
 pub record SearchText : Type 0 where
@@ -36,13 +43,22 @@ pub record EndsAs {A : Type 0} (q : SearchQuestion) (es : List RestEntry) (whole
   pub settled : a.is_settled ≡ is_settled q es whole
   pub unmet : a.is_unmet ≡ is_unmet q es whole
 
--- that of a search through all schedules that begin with a journal, and the run that departs from the trace
+-- the answer of these entries in a form, and how the search ends
+abbrev pub search_text_of : AnswerForm → List (Name × Name) → SearchQuestion → List RestEntry → ℕ → Bool → SearchText
+search_text_of form ss q es states whole = record { text = answer_in form ss q es states whole; settled = is_settled q es whole; unmet = is_unmet q es whole }
+
+-- that of an exploration, and the run that departs from the trace
+pub record IsTextOfExploration {A : Type 0} (form : AnswerForm) (ss : List (Name × Name)) (q : SearchQuestion) (e : Exploration A (KeptListings A)) (t : SearchText) (departure : Option (List ℕ)) : Type 0 where
+  pub written : t ≡ search_text_of form ss q (answer_entries kept_seen e.answers.entries) e.states e.is_complete
+  pub departs : departure ≡ departure_of q (answer_entries kept_seen e.answers.entries)
+
+-- that of a search through all schedules that begin with a journal
 pub record IsTextOfSearch (form : AnswerForm) (ss : List (Name × Name)) (q : SearchQuestion) (b : Bool) (p : Program) (before places : List ℕ) (max_states : ℕ) (t : SearchText) (departure : Option (List ℕ)) : Type 0 where
   pub entries : List RestEntry
   pub states : ℕ
   pub whole : Bool
   pub search : Explores (query_of (admits_for q) b p before places) entries max_states states whole
-  pub written : t ≡ record { text = answer_in form ss q entries states whole; settled = is_settled q entries whole; unmet = is_unmet q entries whole }
+  pub written : t ≡ search_text_of form ss q entries states whole
   pub departs : departure ≡ departure_of q entries
 
 -- ---- a run that shows a trace in its own order
@@ -124,3 +140,16 @@ IsTextElse form ss q b p before places max_states None t departure = IsTextOfSea
 abbrev pub IsAnswerText : AnswerForm → List (Name × Name) → SearchQuestion → Bool → Program → (before places : List ℕ) → ℕ → SearchText → Option (List ℕ) → Type 0
 IsAnswerText form ss q b p before places max_states t departure =
     (o : Option SearchText) × IsTextBefore form ss p before places max_states (trace_by_process q b) o × IsTextElse form ss q b p before places max_states o t departure
+
+-- ---- random runs
+
+-- the answer of the entries of random runs, which are not all runs, and each of a run to rest
+pub record IsTextOfRandomRuns (r : RandomRuns) (form : AnswerForm) (ss : List (Name × Name)) (q : SearchQuestion) (b : Bool) (p : Program) (before places : List ℕ) (max_states : ℕ) (t : SearchText) (departure : Option (List ℕ)) : Type 0 where
+  pub sound : AreSoundWithin all_runs (question_of b) (names_at p places) p before (random_entries_after b p before places r.runs r.seed max_states)
+  pub written : t ≡ search_text_of form ss q (random_entries_after b p before places r.runs r.seed max_states) (random_states_after p before r.runs r.seed max_states) false
+  pub departs : departure ≡ departure_of q (random_entries_after b p before places r.runs r.seed max_states)
+
+-- they answer where they are asked for, and all schedules else
+abbrev pub IsAnswerBy : Option RandomRuns → AnswerForm → List (Name × Name) → SearchQuestion → Bool → Program → (before places : List ℕ) → ℕ → SearchText → Option (List ℕ) → Type 0
+IsAnswerBy None form ss q b p before places max_states t departure = IsAnswerText form ss q b p before places max_states t departure
+IsAnswerBy (Some r) form ss q b p before places max_states t departure = IsTextOfRandomRuns r form ss q b p before places max_states t departure

@@ -116,7 +116,9 @@ pub(crate) fn put_departure<A: Allocator + Copy>(
         return Ok(());
     };
     match form {
-        AnswerForm::Plain => put_last_move(alloc, program, names, journal, text),
         AnswerForm::Json => Ok(()),
+        AnswerForm::Plain | AnswerForm::Summary => put_last_move(
+            alloc, program, names, journal, text,
+        ),
     }
 }

@@ -2,10 +2,10 @@
 //!
 //! Depends on tn_search (the search), tn_answers (the text), tn_explain (the last move of a run), tn_message_pattern
 //! (patterns) and tn_run (jobs). Promises that `explore` writes the defined texts of explorations of the program's
-//! runs, each about one session, with the move by which a run departs from a trace that none shows, or the line of the
-//! one refusal; that its outcome says whether more states could change what is written, and whether what is demanded
-//! of a pattern is refuted or a trace is impossible; and that `add_questions` adds the patterns that texts spell, or
-//! says why one spells none.
+//! runs, or of random runs, each about one session, with the move by which a run departs from a trace that none shows,
+//! or the line of the one refusal; that its outcome says whether more states could change what is written, which of
+//! random runs they always could, and whether what is demanded of a pattern is refuted or a trace is impossible; and
+//! that `add_questions` adds the patterns that texts spell, or says why one spells none.
 #![tactic(auto)]
 
 mod departures;
@@ -18,4 +18,4 @@ mod sessions;
 
 pub use job::explore;
 pub use questions::{QuestionsFault, add_questions};
-pub use request::{ExploreOutcome, ExploreRequest};
+pub use request::{ExploreOutcome, ExploreRequest, RandomRuns};

@@ -5,6 +5,15 @@ use tn_moves::Schedule;
 use tn_run::RunRefusal;
 use tn_search::ListingOrder;
 
+/// The random runs that are made in place of a search.
+#[derive(Clone, Copy, Debug, PartialEq, Eq)]
+pub struct RandomRuns {
+    /// How many.
+    pub runs: usize,
+    /// From which seed the numbers are that draw their picks.
+    pub seed: u64,
+}
+
 /// What is asked of all schedules that begin with some picks.
 #[derive(Clone, Copy)]
 pub struct ExploreRequest<'a> {
@@ -18,6 +27,8 @@ pub struct ExploreRequest<'a> {
     pub question: SearchQuestion<'a, Global>,
     /// How many states may be met before it ends.
     pub max_states: usize,
+    /// The random runs that are made in place of the search, where some are.
+    pub random: Option<RandomRuns>,
     /// The form of what is written.
     pub form: AnswerForm,
 }

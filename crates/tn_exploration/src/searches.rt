@@ -7,19 +7,20 @@ ghost use Rattle.tn_answers.specs.AnswerViews.{session_name_seen};
 ghost use Rattle.tn_answers.specs.SearchAnswers.{form_seen, search_question_seen};
 ghost use Rattle.tn_search.specs.States.{ExploresPlan, is_by_process};
 ghost use Rattle.tn_exploration.specs.Requests.{AddsSearch, AddsSearches, groups_of};
-ghost use Rattle.tn_exploration.specs.Searches.{IsAnswerText, IsTextBefore, IsTextOfSearch};
+ghost use Rattle.tn_exploration.specs.Searches.{IsAnswerBy, IsAnswerText, IsTextBefore, IsTextOfExploration};
+ghost use Rattle.tn_exploration.specs.Searches.{IsTextOfRandomRuns, IsTextOfSearch};
 ghost use Rattle.tn_exploration.specs.Searches.{departure_seen, search_text_seen, trace_by_process};
 
 use crate::departures::{departure_of, put_departure};
 use crate::in_order::answer_in_order;
-use crate::request::ExploreRequest;
+use crate::request::{ExploreRequest, RandomRuns};
 use crate::sessions::names_at;
 use std::alloc::{AllocError, Allocator, Global};
 use tn_answers::{AnswerForm, SearchAnswer, SearchQuestion, SessionName, search_answer};
 use tn_explore::Exploration;
 use tn_messages::{AllRuns, KeptListings};
 use tn_program::Program;
-use tn_search::{ListingOrder, SearchPlan, explore_program};
+use tn_search::{ListingOrder, SearchPlan, explore_program, random_program};
 
 /// How searches ended: whether more states could change no answer, and whether one refutes a demand or has no run for
 /// the trace.
@@ -45,26 +46,34 @@ fn explore_for<A: Allocator + Copy>(
     }
 }
 
+/// What is asked about some sessions.
+struct SearchTask<'a, A: Allocator> {
+    names: &'a [SessionName<A>],
+    question: &'a SearchQuestion<'a, Global>,
+    plan: &'a SearchPlan<'a>,
+    form: AnswerForm,
+}
+
 /// The answer of a run that shows the trace by its own order, where a trace is asked about by process; None where there
 /// is no such run.
 fn answer_before<A: Allocator + Copy>(
     alloc: A,
     program: &Program<A>,
-    names: &[SessionName<A>],
-    question: &SearchQuestion<'_, Global>,
-    plan: &SearchPlan<'_>,
-    form: AnswerForm,
+    task: &SearchTask<'_, A>,
 ) -> Result<Option<SearchAnswer<A>>, AllocError>
-    ensures { let trace = trace_by_process (search_question_seen question.now) (is_by_process plan.now.order) in
-        let ss = map session_name_seen names.now in let p = program_of program.now in
-        IfOk result (λ o. IsTextBefore (form_seen form) ss p plan.now.before.now plan.now.places.now
-        plan.now.max_states trace (option_map search_text_seen o)) }
+    ensures { let k = task.now in let plan = k.plan.now in
+        let trace = trace_by_process (search_question_seen k.question.now) (is_by_process plan.order) in
+        let ss = map session_name_seen k.names.now in let p = program_of program.now in
+        IfOk result (λ o. IsTextBefore (form_seen k.form) ss p plan.before.now plan.places.now plan.max_states
+        trace (option_map search_text_seen o)) }
 {
-    match question {
+    match task.question {
         SearchQuestion::Patterns(_) => Ok(None),
-        SearchQuestion::Trace(trace) => match plan.order {
+        SearchQuestion::Trace(trace) => match task.plan.order {
             ListingOrder::Total => Ok(None),
-            ListingOrder::ByProcess => { answer_in_order(alloc, program, names, trace, plan, form) }
+            ListingOrder::ByProcess => {
+                answer_in_order(alloc, program, task.names, trace, task.plan, task.form)
+            }
         },
     }
 }
@@ -76,48 +85,88 @@ struct AnswerWithDeparture<A: Allocator> {
     departure: Option<Vec<u32, A>>,
 }
 
-/// What a search through all schedules of the plan answers about sessions of these names.
-fn answer_by_search<A: Allocator + Copy>(
+/// What an exploration answers.
+fn answer_from<A: Allocator + Copy>(
     alloc: A,
-    program: &Program<A>,
-    names: &[SessionName<A>],
-    question: &SearchQuestion<'_, Global>,
-    plan: &SearchPlan<'_>,
-    form: AnswerForm,
+    task: &SearchTask<'_, A>,
+    exploration: &Exploration<A, KeptListings<A>>,
 ) -> Result<AnswerWithDeparture<A>, AllocError>
-    ensures { let q = search_question_seen question.now in let b = is_by_process plan.now.order in
-        let ss = map session_name_seen names.now in let p = program_of program.now in
-        IfOk result (λ a. IsTextOfSearch (form_seen form) ss q b p plan.now.before.now plan.now.places.now
-        plan.now.max_states (search_text_seen a.answer) (departure_seen a.departure)) }
+    ensures { let k = task.now in let q = search_question_seen k.question.now in
+        let ss = map session_name_seen k.names.now in IfOk result (λ a. IsTextOfExploration (form_seen k.form) ss q
+        exploration.now (search_text_seen a.answer) (departure_seen a.departure)) }
 {
-    let exploration = explore_for(alloc, program, question, plan)?;
-    let answer = search_answer(alloc, names, question, &exploration, form)?;
-    let departure = departure_of(alloc, question, &exploration, &answer)?;
+    let answer = search_answer(alloc, task.names, task.question, exploration, task.form)?;
+    let departure = departure_of(alloc, task.question, exploration, &answer)?;
     Ok(AnswerWithDeparture { answer, departure })
 }
 
-/// What is answered about sessions of these names: by a run in the order of a trace, or else by a search through all
-/// schedules of the plan.
+/// What a search through all schedules of the plan answers.
+fn answer_by_search<A: Allocator + Copy>(
+    alloc: A,
+    program: &Program<A>,
+    task: &SearchTask<'_, A>,
+) -> Result<AnswerWithDeparture<A>, AllocError>
+    ensures { let k = task.now in let plan = k.plan.now in let b = is_by_process plan.order in
+        let q = search_question_seen k.question.now in let ss = map session_name_seen k.names.now in
+        IfOk result (λ a. IsTextOfSearch (form_seen k.form) ss q b (program_of program.now) plan.before.now
+        plan.places.now plan.max_states (search_text_seen a.answer) (departure_seen a.departure)) }
+{
+    let exploration = explore_for(alloc, program, task.question, task.plan)?;
+    answer_from(alloc, task, &exploration)
+}
+
+/// What is answered by a run in the order of a trace, or else by a search through all schedules of the plan.
 fn answer_of<A: Allocator + Copy>(
     alloc: A,
     program: &Program<A>,
-    names: &[SessionName<A>],
-    question: &SearchQuestion<'_, Global>,
-    plan: &SearchPlan<'_>,
-    form: AnswerForm,
+    task: &SearchTask<'_, A>,
 ) -> Result<AnswerWithDeparture<A>, AllocError>
-    ensures { let q = search_question_seen question.now in let b = is_by_process plan.now.order in
-        let ss = map session_name_seen names.now in let p = program_of program.now in
-        IfOk result (λ a. IsAnswerText (form_seen form) ss q b p plan.now.before.now plan.now.places.now
-        plan.now.max_states (search_text_seen a.answer) (departure_seen a.departure)) }
+    ensures { let k = task.now in let plan = k.plan.now in let b = is_by_process plan.order in
+        let q = search_question_seen k.question.now in let ss = map session_name_seen k.names.now in
+        IfOk result (λ a. IsAnswerText (form_seen k.form) ss q b (program_of program.now) plan.before.now
+        plan.places.now plan.max_states (search_text_seen a.answer) (departure_seen a.departure)) }
 {
-    if let Some(answer) = answer_before(alloc, program, names, question, plan, form)? {
+    if let Some(answer) = answer_before(alloc, program, task)? {
         return Ok(AnswerWithDeparture {
             answer,
             departure: None,
         });
     }
-    answer_by_search(alloc, program, names, question, plan, form)
+    answer_by_search(alloc, program, task)
+}
+
+/// What random runs answer that begin as the plan says.
+fn answer_by_random_runs<A: Allocator + Copy>(
+    alloc: A,
+    program: &Program<A>,
+    task: &SearchTask<'_, A>,
+    random: RandomRuns,
+) -> Result<AnswerWithDeparture<A>, AllocError>
+    ensures { let k = task.now in let plan = k.plan.now in let b = is_by_process plan.order in
+        let q = search_question_seen k.question.now in let ss = map session_name_seen k.names.now in
+        IfOk result (λ a. IsTextOfRandomRuns random (form_seen k.form) ss q b (program_of program.now) plan.before.now
+        plan.places.now plan.max_states (search_text_seen a.answer) (departure_seen a.departure)) }
+{
+    let exploration = random_program(alloc, program, task.plan, random.runs, random.seed)?;
+    answer_from(alloc, task, &exploration)
+}
+
+/// What is answered by random runs, where some are asked for, or else by all schedules of the plan.
+fn answer_by<A: Allocator + Copy>(
+    alloc: A,
+    program: &Program<A>,
+    task: &SearchTask<'_, A>,
+    random: Option<RandomRuns>,
+) -> Result<AnswerWithDeparture<A>, AllocError>
+    ensures { let k = task.now in let plan = k.plan.now in let b = is_by_process plan.order in
+        let q = search_question_seen k.question.now in let ss = map session_name_seen k.names.now in
+        IfOk result (λ a. IsAnswerBy random (form_seen k.form) ss q b (program_of program.now) plan.before.now
+        plan.places.now plan.max_states (search_text_seen a.answer) (departure_seen a.departure)) }
+{
+    match random {
+        None => answer_of(alloc, program, task),
+        Some(runs) => answer_by_random_runs(alloc, program, task, runs),
+    }
 }
 
 /// Appends the text of a search about the sessions at some places, with the move by which a run departs from the trace.
@@ -139,13 +188,17 @@ fn put_search<A: Allocator + Copy>(
         places,
         max_states: request.max_states,
     };
-    let AnswerWithDeparture { answer, departure } = answer_of(
+    let task = SearchTask {
+        names: &names,
+        question: &request.question,
+        plan: &plan,
+        form: request.form,
+    };
+    let AnswerWithDeparture { answer, departure } = answer_by(
         alloc,
         program,
-        &names,
-        &request.question,
-        &plan,
-        request.form,
+        &task,
+        request.random,
     )?;
     text.extend_from_slice(&answer.text)?;
     put_departure(alloc, program, &names, request.form, &departure, text)?;

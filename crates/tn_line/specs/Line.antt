@@ -131,13 +131,14 @@ TRIAL = codes "list" ∷ codes "for" ∷ codes "me" ∷ codes "caller" ∷ codes
 abbrev pub FUN_ARGUMENTS : List (List ℕ)
 FUN_ARGUMENTS = codes "for" ∷ codes "pretty" ∷ codes "fun" ∷ []
 
--- which schedules, what is in an order, and whether the answer is JSON
+-- which schedules, what is in an order, and in which form the answer is
 abbrev pub SCHEDULES : List (List ℕ)
-SCHEDULES = codes "script" ∷ codes "after" ∷ codes "control" ∷ codes "order" ∷ codes "session" ∷ codes "json" ∷ []
+SCHEDULES = codes "script" ∷ codes "after" ∷ codes "control" ∷ codes "order" ∷ codes "session" ∷ codes "summary" ∷ codes "json" ∷ []
 
 -- the arguments of `explore`
 abbrev pub EXPLORE_ARGUMENTS : List (List ℕ)
-EXPLORE_ARGUMENTS = SCHEDULES ++ codes "shows" ∷ codes "always" ∷ codes "never" ∷ codes "sometimes" ∷ codes "max-states" ∷ codes "max-output" ∷ []
+EXPLORE_ARGUMENTS =
+    SCHEDULES ++ codes "shows" ∷ codes "always" ∷ codes "never" ∷ codes "sometimes" ∷ codes "random" ∷ codes "seed" ∷ codes "max-states" ∷ codes "max-output" ∷ []
 
 -- which trace, with which schedules it is compared, and whether the answer is JSON
 abbrev pub TRACES : List (List ℕ)

@@ -2,7 +2,7 @@
 ghost use Rattle.std.specs.Prelude.{codes, IfOk};
 ghost use Rattle.tn_line.specs.Line.{EXPLORE_ARGUMENTS, SCHEDULES, IsCommand, IsElse, IsFromTo, IsOption, IsOptions};
 
-use crate::arguments::{ORDERS, json, max_output, script};
+use crate::arguments::{ORDERS, json_alone, max_output, script, summary};
 use clap::{Arg, ArgAction, Command, value_parser};
 use std::alloc::{AllocError, Global};
 
@@ -135,7 +135,36 @@ pub(crate) fn max_states<'a>(alloc: Global) -> Arg<'a>
         .action(ArgAction::Set)
 }
 
-/// The command with the arguments that say which schedules, what is in an order, and whether the answer is JSON.
+/// `--random N`.
+fn random<'a>(alloc: Global) -> Arg<'a>
+    ensures named { IsOption (codes "random") result }
+    ensures range { IsFromTo 1 4294967295 result }
+{
+    Arg::new(alloc, "random")
+        .long("random")
+        .value_name("N")
+        .help(
+            "Makes N random runs in place of a search through all schedules, from 1 to 4294967295",
+        )
+        .value_parser(value_parser!(u32).range(1..=4294967295))
+        .action(ArgAction::Set)
+}
+
+/// `--seed S`, which is not taken without `--random`.
+fn seed<'a>(alloc: Global) -> Result<Arg<'a>, AllocError>
+    ensures named { IfOk result (IsOption (codes "seed")) }
+    ensures range { IfOk result (IsFromTo 0 4294967295) }
+{
+    Arg::new(alloc, "seed")
+        .long("seed")
+        .value_name("S")
+        .help("The seed of the random runs, from 0 to 4294967295; 0 where it is absent")
+        .value_parser(value_parser!(u32).range(0..=4294967295))
+        .action(ArgAction::Set)
+        .requires_arg("random")
+}
+
+/// The command with the arguments that say which schedules, what is in an order, and in which form the answer is.
 fn schedules<'a>(alloc: Global) -> Result<Command<'a>, AllocError>
     ensures { IfOk result (IsCommand (codes "explore") SCHEDULES) }
 {
@@ -146,12 +175,13 @@ fn schedules<'a>(alloc: Global) -> Result<Command<'a>, AllocError>
         .arg(first_control(alloc)?)?
         .arg(listing_order(alloc))?
         .arg(one_session(alloc))?
-        .arg(json(alloc))
+        .arg(summary(alloc))?
+        .arg(json_alone(alloc)?)
 }
 
 /// The subcommand `explore [SCRIPT] [--after MOVES] [--control first] [--order ORDER] [--session NAME]
-/// [--json] [--shows PATTERN] [--always PATTERN] [--never PATTERN] [--sometimes PATTERN] [--max-states N]
-/// [--max-output BYTES]`.
+/// [--summary] [--json] [--shows PATTERN] [--always PATTERN] [--never PATTERN] [--sometimes PATTERN] [--random N]
+/// [--seed S] [--max-states N] [--max-output BYTES]`.
 pub(crate) fn explore<'a>(alloc: Global) -> Result<Command<'a>, AllocError>
     ensures { IfOk result (IsCommand (codes "explore") EXPLORE_ARGUMENTS) }
 {
@@ -160,6 +190,8 @@ pub(crate) fn explore<'a>(alloc: Global) -> Result<Command<'a>, AllocError>
         .arg(always(alloc))?
         .arg(never(alloc))?
         .arg(sometimes(alloc))?
+        .arg(random(alloc))?
+        .arg(seed(alloc)?)?
         .arg(max_states(alloc))?
         .arg(max_output(alloc))
 }

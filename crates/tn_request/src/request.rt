@@ -4,6 +4,7 @@ ghost use Rattle.std.specs.Prelude.{◌≡◌, None};
 use tn_answers::AnswerForm;
 use tn_command::Source;
 use tn_explain::Filter;
+use tn_exploration::RandomRuns;
 use tn_picture::PictureFormat;
 use tn_search::ListingOrder;
 use tn_spec::Dialect;
@@ -93,6 +94,8 @@ pub struct ExploreArgs<'a> {
     pub goes_on: bool,
     /// How many states may be met before it ends.
     pub max_states: u32,
+    /// The random runs that are made in place of a search, where some are.
+    pub random: Option<RandomRuns>,
     /// The form of the answer.
     pub form: AnswerForm,
 }

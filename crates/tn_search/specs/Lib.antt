@@ -3,3 +3,4 @@ pub mod Sessions
 pub mod Probes
 pub mod States
 pub mod GreedyRuns
+pub mod RandomRuns

@@ -19,11 +19,11 @@ returns g c =
     let a = trace_question_seen c.args.question.now in
     let match = match_text a es e.is_complete (possible_by a es) in
     let end = closing_line e.states (length es) e.is_complete in
-    record {
+    λ b. record {
       text = whole_text c.new-text.result.items c.put_headers.new.out.items c.put_match.new.out.items c.put_explored.new.out.items
           (flat_map session_header ss) match (codes "== explored\n") end
           c.new-text.ensures.items c.in_ok-put_headers.ensures c.in_ok-is_possible.ensures.text c.in_ok-put_explored.ensures
           ∙ ap (λ hs. hs ++ match ++ codes "== explored\n" ++ end) (seen_parts (λ (s : Name × Name). header_line s.0 s.1) session_name_seen ss);
-      unmet = c.is_impossible.ensures ∙ ap (λ (b : Bool). e.is_complete && not b) c.in_ok-is_possible.ensures.possible;
-      settled = c.is_settled.ensures ∙ ap (λ (b : Bool). e.is_complete || b) c.in_ok-is_possible.ensures.possible;
+      unmet = c.is_impossible.ensures ∙ ap (λ (d : Bool). e.is_complete && not d) c.in_ok-is_possible.ensures.possible;
+      settled = c.is_settled.ensures ∙ ap (λ (d : Bool). e.is_complete || d) c.in_ok-is_possible.ensures.possible;
     }

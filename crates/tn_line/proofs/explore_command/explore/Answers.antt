@@ -10,6 +10,10 @@ returns c =
     let third = one_more name _ (codes "never") c.in_ok-arg-2.field-0 c.in_ok-arg-3.field-0 c.never.result second c.never.ensures.0 c.in_ok-arg-3.ensures in
     let fourth = one_more name _ (codes "sometimes") c.in_ok-arg-3.field-0 c.in_ok-arg-4.field-0 c.sometimes.result third c.sometimes.ensures.0
     c.in_ok-arg-4.ensures in
-    let fifth = one_more name _ (codes "max-states") c.in_ok-arg-4.field-0 c.in_ok-arg-5.field-0 c.max_states.result fourth c.max_states.ensures.named.0
+    let fifth = one_more name _ (codes "random") c.in_ok-arg-4.field-0 c.in_ok-arg-5.field-0 c.random.result fourth c.random.ensures.named.0
     c.in_ok-arg-5.ensures in
-    one_more_so name _ (codes "max-output") c.in_ok-arg-5.field-0 c.max_output.result c.arg-6.result fifth c.max_output.ensures.named.0 c.arg-6.ensures
+    let sixth = one_more name _ (codes "seed") c.in_ok-arg-5.field-0 c.in_ok-arg-6.field-0 c.in_ok-seed.field-0 fifth c.in_ok-seed.ensures.named.0
+    c.in_ok-arg-6.ensures in
+    let seventh = one_more name _ (codes "max-states") c.in_ok-arg-6.field-0 c.in_ok-arg-7.field-0 c.max_states.result sixth c.max_states.ensures.named.0
+    c.in_ok-arg-7.ensures in
+    one_more_so name _ (codes "max-output") c.in_ok-arg-7.field-0 c.max_output.result c.arg-8.result seventh c.max_output.ensures.named.0 c.arg-8.ensures

@@ -14,4 +14,6 @@ returns c =
     c.in_ok-arg-4.ensures in
     let fifth = one_more name _ (codes "session") c.in_ok-arg-4.field-0 c.in_ok-arg-5.field-0 c.one_session.result fourth c.one_session.ensures.0
     c.in_ok-arg-5.ensures in
-    one_more_so name _ (codes "json") c.in_ok-arg-5.field-0 c.json.result c.arg-6.result fifth c.json.ensures.0 c.arg-6.ensures
+    let sixth = one_more name _ (codes "summary") c.in_ok-arg-5.field-0 c.in_ok-arg-6.field-0 c.summary.result fifth c.summary.ensures.0
+    c.in_ok-arg-6.ensures in
+    one_more_so name _ (codes "json") c.in_ok-arg-6.field-0 c.in_ok-json_alone.field-0 c.arg-7.result sixth c.in_ok-json_alone.ensures.0 c.arg-7.ensures

@@ -1,0 +1,4 @@
+pub mod RandomRuns
+pub mod KeptSame
+pub mod RandomEntries
+pub mod Rows

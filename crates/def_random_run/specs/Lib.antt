@@ -1,0 +1,4 @@
+pub mod Numbers
+pub mod RandomRuns
+pub mod RandomEntries
+pub mod Laws
