@@ -47,6 +47,7 @@ fn explore_for<A: Allocator + Copy>(
 }
 
 /// What is asked about some sessions.
+#[derive(Drop)]
 struct SearchTask<'a, A: Allocator> {
     names: &'a [SessionName<A>],
     question: &'a SearchQuestion<'a, Global>,

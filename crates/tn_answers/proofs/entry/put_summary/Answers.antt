@@ -9,5 +9,5 @@ pub returns : goal.returns
 returns g c =
     let old = c.args.out.now.items in
     let texts = session_texts (map session_name_seen c.args.sessions.now) (kept_listings (kept_seen c.args.kept.now)) in
-    let listings : c.put_kept.new.out.items ≡ texts = c.in_ok-put_kept.ensures ∙ ap (λ xs. xs ++ texts) c.new.ensures.items in
+    let listings : c.put_kept.new.out.items ≡ texts = c.in_ok-put_kept.ensures ∙ ap (λ xs. xs ++ texts) c.new-listings.ensures.items in
     c.in_ok-extend_from_slice.ensures.items ∙ ap (λ xs. old ++ xs) (c.deref-2.ensures.value ∙ c.in_ok-summary.ensures ∙ ap summary_of (c.deref.ensures.value ∙ listings))

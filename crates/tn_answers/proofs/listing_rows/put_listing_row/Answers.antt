@@ -1,11 +1,11 @@
-use Rattle.std.proofs.Common.{◌≡◌, ◌∙◌, ◌++◌, ◌∷◌, [], ap, refl, sym}
+use Rattle.std.proofs.Common.{◌≡◌, ◌∙◌, ◌++◌, ◌∷◌, [], refl}
 use Rattle.std.proofs.lemmas.Result.{IfOk-weaker}
 use Rattle.json.specs.Print.{print}
 use Rattle.json.specs.Token.{end_object}
 use Rattle.json.specs.Tree.{json_tokens}
 use Rattle.def_formats.specs.JsonRows.{json_line}
 use Rattle.def_compare.specs.AnswerRows.{listing_row}
-use Rattle.tn_answers.proofs.Rows.{row_is, member_after, object_begun, gains_same}
+use Rattle.tn_answers.proofs.Rows.{row_is, member_after, object_begun}
 use Rattle.tn_answers.proofs.listing_rows.put_listing_row.Goals as goal
 
 pub returns : goal.returns

@@ -1,4 +1,4 @@
-use Rattle.std.proofs.Common.{◌∙◌, ◌++◌, ◌∷◌, [], ◌+◌, List, ℕ, arith, ap, sym}
+use Rattle.std.proofs.Common.{◌∙◌, ◌++◌, ◌+◌, List, ℕ, arith, ap, sym}
 use Rattle.def_formats.specs.JsonRows.{json_line, json_lines, message_row, numbered_rows}
 use Rattle.def_term.specs.Text.{w}
 use Rattle.tn_answers.specs.RowViews.{lent_message}
