@@ -1,11 +1,16 @@
 -- Whether a run departs from a trace.
-use Rattle.std.proofs.Common.{◌≡◌, ◌∙◌, ℕ, Bool, true, false, List, ◌++◌, Option, Some, None, not, ◌&&◌, ◌||◌, OnOk, ap, append_assoc, refl, sym}
+use Rattle.std.proofs.Common.{◌≡◌, ◌∙◌, ◌⊎◌, inl, inr, codes, ℕ, Bool, true, false, List, ◌++◌, Option, Some, None, not, ◌&&◌, ◌||◌, OnOk, ap, append_assoc, refl, sym}
 use Rattle.std.proofs.lemmas.Result.{on_ok_weaker}
 use Rattle.std.specs.Prelude.{Result, is_some, if◌then◌else◌}
 use Rattle.def_explore.specs.Answers.{RestEntry}
 use Rattle.def_compare.specs.Traces.{TraceQuestion, begins_trace}
 use Rattle.def_compare.specs.Entries.{Match, Prefix}
-use Rattle.def_departure.specs.Departures.{departure_by, departure_unless}
+use Rattle.def_term.specs.Names.{Name}
+use Rattle.def_script.specs.Program.{Program}
+use Rattle.def_departure.specs.Departures.{departure_by, departure_text, departure_unless, first_name, last_move_text}
+use Rattle.tn_answers.specs.SearchAnswers.{form_seen}
+use Rattle.tn_answers.specs.declared.form.AnswerForm.{AnswerForm}
+use Rattle.tn_answers.specs.declared.form.AnswerForm.TheVariants.{Plain, Summary, Json}
 
 -- a text after a heading, appended together
 pub after_heading : {T E : Type 0} (r : Result T E) (new old heading last : List ℕ) → OnOk r (new ≡ (old ++ heading) ++ last) → OnOk r (new ≡ old ++ (heading ++ last))
@@ -41,3 +46,11 @@ module _ (a : TraceQuestion) (es : List RestEntry) where
   some_without_run (Some m) false true true is but so = cc
   some_without_run (Some m) false true false is but so = cc
   some_without_run (Some m) false false unmet is but so = cc
+
+-- lines for a reader have the heading and the account of the last move, whether the listings are summarized or not
+pub line_departure : (form : AnswerForm) (ss : List (Name × Name)) (p : Program) (journal : List ℕ) → ((form ≡ Plain) ⊎ (form ≡ Summary))
+    → codes "== explained\n" ++ last_move_text (first_name ss) p journal ≡ departure_text (form_seen form) ss p (Some journal)
+line_departure Plain ss p journal is = refl
+line_departure Summary ss p journal is = refl
+line_departure Json ss p journal (inl is) = cc
+line_departure Json ss p journal (inr is) = cc
