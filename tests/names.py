@@ -20,8 +20,8 @@ IRREGULAR = set(
 
 # Words that look like participles, and the names that the manual gives to parts of the public surface.
 NOUNS = {
-    "binding", "bound", "listing", "matching", "nothing", "reading", "renaming", "setting", "spelling", "string",
-    "thing", "upcoming",
+    "binding", "bound", "listing", "matching", "nothing", "reading", "renaming", "seed", "setting", "spelling",
+    "string", "thing", "upcoming",
 }
 SURFACE = {"closed", "created", "failed", "made", "moved", "seen", "split", "spread", "watched"}
 

@@ -192,15 +192,15 @@ listings_form_given true is_json = forms.Summary
 listings_form_given false is_json = form_given is_json
 
 -- so many random runs with this seed, or with 0
-abbrev pub random_runs : (runs seed : Option ℕ) → Option RandomRuns
-random_runs None seed = None
-random_runs (Some n) seed = Some (record { runs = n; seed = unwrap_or seed 0 })
+abbrev pub random_runs_given : (runs seed : Option ℕ) → Option RandomRuns
+random_runs_given None seed = None
+random_runs_given (Some n) seed = Some (record { runs = n; seed = unwrap_or seed 0 })
 
 -- the random runs that `--random` and `--seed` ask for
 abbrev pub AreRandomRunsOf : ArgMatches → Option RandomRuns → Type 0
 AreRandomRunsOf m r =
     (runs : Option ℕ) × (seed : Option ℕ) × IsNumberOrNone {E = Unit {0}} (argument m (codes "random")) (Ok runs)
-    × IsNumberOrNone {E = Unit {0}} (argument m (codes "seed")) (Ok seed) × (r ≡ random_runs runs seed)
+    × IsNumberOrNone {E = Unit {0}} (argument m (codes "seed")) (Ok seed) × (r ≡ random_runs_given runs seed)
 
 -- one of the two is given, and isn't a number
 abbrev pub LacksRandomNumber : ArgMatches → Type 0

@@ -5,7 +5,7 @@ ghost use Rattle.tn_cli.specs.Requests.{number_given, IsNumberOrNone};
 ghost use Rattle.tn_cli.specs.Requests.{NamesProcess, NamesNoProcess, ArePicksOf, IsSourceNamed, Asks, IsAskedBy};
 ghost use Rattle.tn_cli.specs.Requests.{LacksLimit, LacksNumber, IsWithoutNumber, NamesNoCommand};
 ghost use Rattle.tn_cli.specs.Requests.{IsRunOf, takes_control_first, first_moves, form_given, order_named};
-ghost use Rattle.tn_cli.specs.Requests.{AreRandomRunsOf, LacksRandomNumber, listings_form_given, random_runs};
+ghost use Rattle.tn_cli.specs.Requests.{AreRandomRunsOf, LacksRandomNumber, listings_form_given, random_runs_given};
 ghost use Rattle.tn_expectation.specs.Expectations.{words_of};
 ghost use Rattle.tn_cli.specs.Requests.{IsExpectationOf, IsListingOf, IsSourceOrNone, texts_given};
 
@@ -370,7 +370,7 @@ fn listings_form<'a>(matches: &ArgMatches<'a>) -> AnswerForm
 
 /// The random runs of a number and a seed, where there is a number.
 fn random_runs(runs: Option<u64>, seed: Option<u64>) -> Option<RandomRuns>
-    ensures { result ≡ random_runs runs seed }
+    ensures { result ≡ random_runs_given runs seed }
 {
     let runs = runs?;
     Some(RandomRuns {
