@@ -1,0 +1,12 @@
+//! When the next move of one process is independent of all other picks.
+//!
+//! Depends on def_term, def_spec, def_script, def_node, def_outlook, def_session, def_run and def_explore. Promises,
+//! as laws, that conditions on the state after a journal, which code can test, make such a move independent.
+#![tactic(auto)]
+
+ghost use Rattle.def_independence.specs.Laws.{ReceivesAreIndependent};
+
+/// A receive that takes a message is independent of all other picks.
+pub fn receives_are_independent()
+    ensures { ReceivesAreIndependent }
+{}
