@@ -4,3 +4,9 @@ pub mod Worlds
 pub mod Runs
 pub mod Picks
 pub mod Receives
+pub mod Evaluations
+pub mod Sessions
+pub mod Events
+pub mod Swaps
+pub mod Calls
+mod Rows

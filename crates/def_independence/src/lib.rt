@@ -4,9 +4,15 @@
 //! as laws, that conditions on the state after a journal, which code can test, make such a move independent.
 #![tactic(auto)]
 
-ghost use Rattle.def_independence.specs.Laws.{ReceivesAreIndependent};
+ghost use Rattle.def_independence.specs.Laws.{ReceivesAreIndependent, CallsAreIndependentByProcess};
 
 /// A receive that takes a message is independent of all other picks.
 pub fn receives_are_independent()
     ensures { ReceivesAreIndependent }
+{}
+
+/// A move that changes one process alone, as a call, is independent of all other picks where the messages of each
+/// process are asked for alone.
+pub fn calls_are_independent_by_process()
+    ensures { CallsAreIndependentByProcess }
 {}
