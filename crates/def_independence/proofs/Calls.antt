@@ -242,7 +242,7 @@ calm_at p j n big es own shown (s ∷ ss) acts before after =
     (own_calm n big es own (state_of (view s p j)) (a.0, not_true _ b.0) quiet, calm_at p j n big es own shown ss a.1 b.1 c.1)
 
 pub calls_independent : CallsAreIndependentByProcess
-calls_independent ss p j zero none empty alone acts before after = absurd (let x : false ≡ true = alone in cc)
+calls_independent ss p j zero none empty alone acts before after others free room = absurd (let x : false ≡ true = alone in cc)
 calls_independent ss p j (suc n) none empty alone acts before after others free room =
     let w : World = (run_state_of p j).world in
     let one : (r : Process) × (process_with w (suc n) ≡ Some r) × (is_alone (act p.functions (suc n) (next_pid w) r) ≡ true) = one_alone_of p.functions w (suc n) (process_with w (suc n)) alone in
