@@ -17,6 +17,7 @@ use Rattle.def_spec.specs.Outcome.{Clause, Spec, Outcome, no_match, matched, mat
 use Rattle.def_explore.specs.Lists.{EachOf}
 use Rattle.def_explore.proofs.Lists.{each_both}
 use Rattle.def_independence.specs.OwnEffects.{count_exprs, names_no_process, acts_on_self, act_on_self, clauses_act_on_self}
+use Rattle.def_independence.proofs.Numbers.{both_true}
 
 -- ---- one place of a table
 
@@ -311,10 +312,6 @@ module _ (d : Dialect) (b : Bindings) (ml : List Tree) (p : ℕ) (cm : Option Mf
 abbrev pub OwnOutcome : ℕ → Outcome → Type 0
 OwnOutcome p no_match = Unit {0}
 OwnOutcome p (matched es) = AreOwnEffects p es
-
-both_true : (a b : Bool) → (a && b) ≡ true → (a ≡ true) × (b ≡ true)
-both_true true b h = (refl, h)
-both_true false b h = absurd (let k : false ≡ true = h in cc)
 
 module _ (d : Dialect) (ml : List Tree) (p : ℕ) (cm : Option Mfa) (al bl : Alive) (fl gl : FlagTable) (lives : slice_get al (p - 100) ≡ slice_get bl (p - 100)) (flagged : slice_get fl (p - 100) ≡ slice_get gl (p - 100)) where
   firing_same : (k : Clause) → firing_bindings d k (context_with ml p cm al fl) ≡ firing_bindings d k (context_with ml p cm bl gl)

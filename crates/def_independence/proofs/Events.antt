@@ -1,6 +1,6 @@
 -- An event of a process, and an event apart from it: whichever comes first, both lead to the same session, and show the same.
 use Rattle.std.proofs.Common.{◌≡◌, ℕ, zero, suc, ◌-◌, ◌≤◌, Bool, true, false, ◌&&◌, if◌then◌else◌, cond, List, [], ◌∷◌, slice_get, Option, Some, None, refl, ap, sym, ◌∙◌, subst, arith}
-use Rattle.std.specs.Prelude.{nat_le, nat_eq}
+use Rattle.std.specs.Prelude.{nat_le, ◌==◌}
 use Rattle.std.specs.Option.{unwrap_or}
 use Rattle.std.proofs.Math.ListN.{set}
 use Rattle.std.proofs.lemmas.Bool.Decides.{nat_tests}
@@ -14,23 +14,9 @@ use Rattle.def_session.specs.State.{Phase, absent, live, destroyed, Mark, Sessio
 use Rattle.def_session.specs.Messages.{process_of}
 use Rattle.def_session.specs.Session.{with_both, inherit, evaluated_by, context, effects_of, EventResult, reported_for, reported_in, event_reported}
 use Rattle.def_independence.specs.OwnEffects.{setting_acts_on_self, functions_act_on_self, session_acts_on_self}
+use Rattle.def_independence.proofs.Numbers.{large_if, big_if, same_if, other_if, far_if}
 use Rattle.def_independence.proofs.Worlds.{IsElse, IsApart}
 use Rattle.def_independence.proofs.Sessions.{set_swap, get_other, touch, Like, like_same, like_then, like_touch, touch_swap, Goes, flags_of, marks_of, life_of, touch_same, touch_by, effects_go}
-
-large_if : (n : ℕ) → 100 ≤ n → nat_le 100 n ≡ true
-large_if n h = grind (arith, nat_tests, h)
-
-big_if : (n : ℕ) → nat_le 100 n ≡ true → 100 ≤ n
-big_if n h = grind (arith, nat_tests, h)
-
-same_if : (a b : ℕ) → nat_eq a b ≡ true → a ≡ b
-same_if a b h = grind (arith, nat_tests, h)
-
-other_if : (a b : ℕ) → nat_eq a b ≡ false → a ≡ b → ⊥
-other_if a b h e = grind (arith, nat_tests, h, e)
-
-far_if : (n m : ℕ) → 100 ≤ n → 100 ≤ m → (m ≡ n → ⊥) → n - 100 ≡ m - 100 → ⊥
-far_if n m big large other e = other (omega (arith, big, large, e))
 
 -- a result
 abbrev result : Session → Option Tree → EventResult
@@ -229,9 +215,9 @@ deaf_away n s sender x h = record {
 
 pub apart_away : (n : ℕ) → nat_le 100 n ≡ true → (s : Session) → Holds n s → (e : Event) → IsApart n e → Away n s e
 apart_away n big s holds (sent p x to alive) other = else_away n big s (sent p x to alive) other (inherits_none (n - 100) s (sent p x to alive) (λ _. refl)) holds.0
-apart_away n big s holds (received p sender x) large = go (nat_eq p n) refl
+apart_away n big s holds (received p sender x) large = go (p == n) refl
   where
-    go : (b : Bool) → nat_eq p n ≡ b → Away n s (received p sender x)
+    go : (b : Bool) → p == n ≡ b → Away n s (received p sender x)
     go true e = subst (λ k. Away n s (received k sender x)) (sym (same_if p n e)) (deaf_away n s sender x holds.1)
     go false e = else_away n big s (received p sender x) (large, other_if p n e) (inherits_none (n - 100) s (received p sender x) (λ _. refl)) holds.0
 apart_away n big s holds (called p c) other = else_away n big s (called p c) other (inherits_none (n - 100) s (called p c) (λ _. refl)) holds.0

@@ -1,3 +1,4 @@
+pub mod Numbers
 pub mod Acts
 pub mod Slots
 pub mod Worlds

@@ -10,6 +10,7 @@ use Rattle.def_run.proofs.Runs.{runs_grow}
 use Rattle.def_explore.specs.Rests.{IsMovingAfter, RunQuestion}
 use Rattle.def_explore.specs.Alike.{IsStateAlike, is_pick_among, AreIndependent}
 use Rattle.def_explore.proofs.Alike.{goes_on, alike_then, alike_same}
+use Rattle.def_independence.proofs.Numbers.{same_if, other_if}
 
 or_false : (b : Bool) → (b || false) ≡ true → b ≡ true
 or_false true h = refl
@@ -18,12 +19,6 @@ or_false false h = h
 or_none : (b : Bool) → (b || false) ≡ false → b ≡ false
 or_none true h = h
 or_none false h = refl
-
-same_pick : (a b : ℕ) → (a == b) ≡ true → a ≡ b
-same_pick a b h = grind (arith, nat_tests, h)
-
-other_pick : (a b : ℕ) → (a == b) ≡ false → b ≡ a → ⊥
-other_pick a b h e = grind (arith, nat_tests, h, e)
 
 -- what was before has no more moves
 pub fewer : (p : Program) (a b : List ℕ) → length (moves p (a ++ b)) < 65536 → length (moves p a) < 65536
@@ -50,7 +45,7 @@ module _ (q : RunQuestion) (ss : List Name) (p : Program) (t : ℕ) (Meets : Lis
       let apart : (j ++ o ∷ []) ++ os ≡ j ++ o ∷ os = append_assoc j (o ∷ []) os in
       let room_first : length (moves p ((j ++ o ∷ []) ++ os)) < 65536 = subst (λ a. length (moves p a) < 65536) (sym apart) room in
       let room_one : length (moves p (j ++ o ∷ [])) < 65536 = fewer p (j ++ o ∷ []) os room_first in
-      let other : o ≡ t → ⊥ = other_pick t o (or_none (t == o) (All-head IsFree o os free)) in
+      let other : o ≡ t → ⊥ = λ e. other_if t o (or_none (t == o) (All-head IsFree o os free)) (sym e) in
       let rest : IsMovingAfter p ((j ++ o ∷ []) ++ os) t × IsStateAlike q ss p (((j ++ o ∷ []) ++ os) ++ t ∷ []) ((j ++ o ∷ []) ++ t ∷ os) =
       from_each os (j ++ o ∷ []) (h.kept j o m other room_one) (All-tail IsFree o os free) room_first in
       let on : IsStateAlike q ss p ((j ++ o ∷ t ∷ []) ++ os) ((j ++ t ∷ o ∷ []) ++ os) = goes_on q ss p (j ++ o ∷ t ∷ []) (j ++ t ∷ o ∷ []) os (h.alike j o m other room_one) in
@@ -63,4 +58,4 @@ module _ (q : RunQuestion) (ss : List Name) (p : Program) (t : ℕ) (Meets : Lis
 
   pub from_all : (j : List ℕ) → Meets j → AreIndependent q ss p j (t ∷ [])
   from_all j m others free room one there =
-      subst (λ x. IsMovingAfter p (j ++ others) x × IsStateAlike q ss p ((j ++ others) ++ x ∷ []) (j ++ x ∷ others)) (same_pick t one (or_false (t == one) there)) (from_each others j m free room)
+      subst (λ x. IsMovingAfter p (j ++ others) x × IsStateAlike q ss p ((j ++ others) ++ x ∷ []) (j ++ x ∷ others)) (same_if t one (or_false (t == one) there)) (from_each others j m free room)

@@ -13,9 +13,9 @@ use Rattle.def_run.proofs.Samples.{number, braces, brackets, function, entry, pr
 use Rattle.def_explore.specs.Rests.{all_messages, by_process}
 use Rattle.def_explore.specs.Alike.{AreIndependent}
 use Rattle.def_independence.specs.Alone.{have_link, takes_message_after, goes_alone_after}
-use Rattle.def_independence.specs.OwnEffects.{acts_on_self, setting_acts_on_self, sessions_act_on_self, sessions_show_no_receive}
+use Rattle.def_independence.specs.OwnEffects.{acts_on_self, setting_acts_on_self, sessions_act_on_self, sessions_show_no_receive, none_is_to_one, sessions_show_nothing}
 use Rattle.def_independence.proofs.Receives.{receives_independent}
-use Rattle.def_independence.proofs.Calls.{calls_independent}
+use Rattle.def_independence.proofs.Calls.{calls_independent, unseen_independent}
 
 -- ---- a send and a receive
 
@@ -102,6 +102,23 @@ shows_no_receive = refl
 call_first : AreIndependent by_process asked sends commands (101 ∷ [])
 call_first = calls_independent asked sends commands 101 refl refl refl refl refl refl
 
+-- a command to the session is left before its third, and none to another session
+a_command_left : none_is_to_one asked (run_state_of sends (0 ∷ 0 ∷ [])).commands ≡ false
+a_command_left = refl
+
+none_to_another : none_is_to_one (codes "u" ∷ []) (run_state_of sends (0 ∷ 0 ∷ [])).commands ≡ true
+none_to_another = refl
+
+-- the call of go has no setting, so the pick of 100 shows nothing, and is independent of all others, whatever is asked; that of 101 shows its call
+shows_no_call : sessions_show_nothing asked sends commands 100 ≡ true
+shows_no_call = refl
+
+unseen_first : AreIndependent all_messages asked sends commands (100 ∷ [])
+unseen_first = unseen_independent all_messages asked sends commands 100 refl refl refl refl refl refl refl
+
+shows_call : sessions_show_nothing asked sends commands 101 ≡ false
+shows_call = refl
+
 -- with the flag `receive` the condition doesn't hold: its call and a message to it are in one order or the other
 abbrev hears : Program
 hears = program sends.functions sends.entries (creates "s" "t" ∷ sets "s" (pid 101) ("call" ∷ "receive" ∷ []) ∷ sets_function "s" (mfa_of "rest" 0) (word "true") [] ∷ [])
@@ -111,6 +128,19 @@ shows_receive = refl
 
 abbrev call_of : ℕ → Tree → Tree
 call_of n name = braces (word "trace" ∷ pid n ∷ word "call" ∷ braces (word "m" ∷ name ∷ brackets [] ∷ []) ∷ [])
+
+-- where both calls are shown, all messages are in one order or the other
+abbrev shows_both : Program
+shows_both = program sends.functions sends.entries (creates "s" "t" ∷ sets "s" (word "all") ("call" ∷ []) ∷ sets_function "s" (braces (word "m" ∷ word "_" ∷ word "_" ∷ [])) (word "true") [] ∷ [])
+
+one_order : messages (codes "s") shows_both (commands ++ 100 ∷ 101 ∷ []) ≡ call_of 100 (word "go") ∷ call_of 101 (word "rest") ∷ []
+one_order = refl
+
+other_order : messages (codes "s") shows_both (commands ++ 101 ∷ 100 ∷ []) ≡ call_of 101 (word "rest") ∷ call_of 100 (word "go") ∷ []
+other_order = refl
+
+shows_either : sessions_show_nothing asked shows_both commands 100 ≡ false
+shows_either = refl
 
 abbrev got_one : Tree
 got_one = braces (word "trace" ∷ pid 101 ∷ word "receive" ∷ number 1 ∷ [])

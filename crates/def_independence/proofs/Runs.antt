@@ -53,9 +53,9 @@ room_left p picks few = go (run_state_of p picks).room refl
 abbrev pub run_aside : (ks : List Function) (n : ℕ) (es : List Event) (p : RunState) → Ready ks n es p.world → ℕ → RunState
 run_aside ks n es p r room = record { world = aside ks n es p.world r; commands = p.commands; room = room }
 
--- events that are apart from the process n; or one of these commands is the next
+-- events that are apart from the process n; or the next of these commands
 abbrev pub Shown : ℕ → List Command → List HistoryItem → Type 0
-Shown n cs xs = ((ds : List Event) × (xs ≡ map event_item ds) × EachOf (IsApart n) ds) ⊎ ((c : Command) × (rest : List Command) × (cs ≡ c ∷ rest))
+Shown n cs xs = ((ds : List Event) × (xs ≡ map event_item ds) × EachOf (IsApart n) ds) ⊎ ((c : Command) × (rest : List Command) × (cs ≡ c ∷ rest) × (xs ≡ command_item c ∷ []))
 
 -- a pick from the state p, and the same from the state with the process's own move made, show the same, and lead to the same but for that move
 pub record Parallel (ks : List Function) (n : ℕ) (es : List Event) (p : RunState) (a d : PickStep) : Type 0 where
@@ -102,7 +102,7 @@ module _ (ks : List Function) (none : have_link ks ≡ false) (n : ℕ) (big : n
   takes_parallel p r zero more [] is h left = record { ready = r; room = zero; left = h; shown = refl; after = refl; apart = inl ([], refl, tt) }
   takes_parallel p r (suc room) more [] is h left = record { ready = r; room = suc room; left = h; shown = refl; after = refl; apart = inl ([], refl, tt) }
   takes_parallel p r zero more (c ∷ cs) is h left = absurd (omega (arith, left))
-  takes_parallel p r (suc room) more (c ∷ cs) is h left = record { ready = r; room = room; left = refl; shown = refl; after = refl; apart = inr (c, cs, is) }
+  takes_parallel p r (suc room) more (c ∷ cs) is h left = record { ready = r; room = room; left = refl; shown = refl; after = refl; apart = inr (c, cs, is, refl) }
 
   goes_parallel : (p : RunState) (r : Ready ks (suc n) es p.world) (room more : ℕ) (a b : Move) → Beside ks none (suc n) big es a b → p.room ≡ suc room → (goes_to p room a).after.room ≡ suc more
       → Parallel ks (suc n) es p (goes_to p room a) (move_with (run_aside ks (suc n) es p r room) room b)

@@ -16,6 +16,7 @@ use Rattle.def_session.specs.Messages.{elements_of, process_of, last_message, me
 use Rattle.def_session.specs.Session.{effects_of_outcome, evaluated_by, context, is_for_exceptions, where_set, where_marked, effects_of, is_silenced, message_after, all_affected, mark_asked, mark_frame, unmark_frame, finish, EventResult, reported_for}
 use Rattle.def_explore.specs.Lists.{EachOf}
 use Rattle.def_independence.specs.OwnEffects.{setting_acts_on_self, functions_act_on_self, session_acts_on_self}
+use Rattle.def_independence.proofs.Numbers.{both_true}
 use Rattle.def_independence.proofs.Evaluations.{set_alike, IsOwnEffect, AreOwnEffects, after_alike, context_with, OwnOutcome, outcome_same}
 
 -- ---- tables
@@ -123,10 +124,6 @@ touch_by k s t h = λ i. record t { flags = set_by s.flags t.flags k no_flags h.
 abbrev pub OwnIn : ℕ → Option (List Effect) → Type 0
 OwnIn p None = Unit {0}
 OwnIn p (Some es) = AreOwnEffects p es
-
-both_true : (a b : Bool) → (a && b) ≡ true → (a ≡ true) × (b ≡ true)
-both_true true b h = (refl, h)
-both_true false b h = absurd (let k : false ≡ true = h in cc)
 
 setting_for_own : (ks : List FunctionSetting) (c : Call) → functions_act_on_self ks ≡ true → setting_acts_on_self (setting_for ks c) ≡ true
 setting_for_own [] c h = refl

@@ -1,6 +1,6 @@
 -- Events of a process, and events apart from it: whichever come first, both lead to the same session, and show the same of each process.
 use Rattle.std.proofs.Common.{◌≡◌, ℕ, zero, suc, Bool, true, false, cond, List, [], ◌∷◌, ◌++◌, map, Option, Some, None, refl, ap, sym, ◌∙◌, subst, append_assoc, append-nil, arith}
-use Rattle.std.specs.Prelude.{nat_le, nat_eq, ◌==◌, filter, option_to_list, if◌then◌else◌}
+use Rattle.std.specs.Prelude.{nat_le, ◌==◌, filter, option_to_list, if◌then◌else◌}
 use Rattle.std.proofs.lemmas.Bool.Decides.{nat_tests}
 use Rattle.def_term.specs.Tree.{Tree, pid, tuple, of_elements}
 use Rattle.def_term.specs.Order.{same}
@@ -13,6 +13,7 @@ use Rattle.def_session.specs.Messages.{elements_of, process_of, last_message, me
 use Rattle.def_session.specs.Session.{inherit, effects_of, is_silenced, message_after, all_affected, EventResult, reported_for, reported_in, event_reported}
 use Rattle.def_explore.specs.Lists.{EachOf}
 use Rattle.def_explore.specs.Rests.{is_of_process, each_process}
+use Rattle.def_independence.proofs.Numbers.{same_if, other_if, not_same}
 use Rattle.def_independence.proofs.Worlds.{IsElse, IsApart}
 use Rattle.def_independence.proofs.Events.{IsOwn, Holds, deaf, Both, both, apart_holds}
 
@@ -139,16 +140,6 @@ event_about s e = go s.phase
 
 -- ---- what is kept of each process
 
-pick_same : (a b : ℕ) → (a == b) ≡ true → a ≡ b
-pick_same a b h = grind (arith, nat_tests, h)
-
-not_same : (p x : ℕ) → (p ≡ x → ⊥) → (p == x) ≡ false
-not_same p x other = go (p == x) refl
-  where
-    go : (b : Bool) → (p == x) ≡ b → (p == x) ≡ false
-    go true e = absurd (other (pick_same p x e))
-    go false e = e
-
 none_about : (x p : ℕ) → (p ≡ x → ⊥) → (o : Option Tree) → About p o → filter (is_of_process x) (option_to_list o) ≡ []
 none_about x p other None h = refl
 none_about x p other (Some m) h = ap (λ b. cond b (m ∷ []) []) (h x ∙ not_same p x other)
@@ -174,21 +165,15 @@ own_told n x other (e ∷ es) own s =
     ∙ ap (λ ms. ms ++ filter (is_of_process x) (told (event_reported s e).0 es)) (none_about x (process_of e) (λ k. other (sym (own_process n e own.0) ∙ k)) (event_reported s e).1 (event_about s e))
     ∙ own_told n x other es own.1 (event_reported s e).0
 
-same_number : (a b : ℕ) → nat_eq a b ≡ true → a ≡ b
-same_number a b h = grind (arith, nat_tests, h)
-
-other_number : (a b : ℕ) → nat_eq a b ≡ false → a ≡ b → ⊥
-other_number a b h e = grind (arith, nat_tests, h, e)
-
 -- of an event apart the process has no message
 apart_silent : (n : ℕ) (s : Session) → Holds n s → (d : Event) → IsApart n d → filter (is_of_process n) (option_to_list (event_reported s d).1) ≡ []
-apart_silent n s holds (received p sender x) large = go (nat_eq p n) refl
+apart_silent n s holds (received p sender x) large = go (p == n) refl
   where
-    go : (b : Bool) → nat_eq p n ≡ b → filter (is_of_process n) (option_to_list (event_reported s (received p sender x)).1) ≡ []
+    go : (b : Bool) → p == n ≡ b → filter (is_of_process n) (option_to_list (event_reported s (received p sender x)).1) ≡ []
     go true e =
-        subst (λ k. filter (is_of_process n) (option_to_list (event_reported s (received k sender x)).1) ≡ []) (sym (same_number p n e))
+        subst (λ k. filter (is_of_process n) (option_to_list (event_reported s (received k sender x)).1) ≡ []) (sym (same_if p n e))
         (ap (λ (r : EventResult). filter (is_of_process n) (option_to_list r.1)) (deaf s n sender x holds.1))
-    go false e = none_about n p (other_number p n e) (event_reported s (received p sender x)).1 (event_about s (received p sender x))
+    go false e = none_about n p (other_if p n e) (event_reported s (received p sender x)).1 (event_about s (received p sender x))
 apart_silent n s holds (sent p x to alive) other = none_about n p other.1 (event_reported s (sent p x to alive)).1 (event_about s (sent p x to alive))
 apart_silent n s holds (called p c) other = none_about n p other.1 (event_reported s (called p c)).1 (event_about s (called p c))
 apart_silent n s holds (returned p f t depth) other = none_about n p other.1 (event_reported s (returned p f t depth)).1 (event_about s (returned p f t depth))
@@ -224,8 +209,8 @@ each_same (n ∷ ns) xs ys h = λ i. h n i ∷ each_same ns xs ys h i
 pub turned : (n : ℕ) → nat_le 100 n ≡ true → (es ds : List Event) → EachOf (IsOwn n) es → EachOf (IsApart n) ds → (s : Session) → Holds n s → (ns : List ℕ) (ms : List Tree)
     → each_process ns (ms ++ (told s ds ++ told s es)) ≡ each_process ns (ms ++ (told s es ++ told s ds))
 turned n big es ds own apart s holds ns ms =
-    each_same ns (ms ++ (told s ds ++ told s es)) (ms ++ (told s es ++ told s ds)) (λ x. after_if (is_of_process x) ms (told s ds ++ told s es) (told s es ++ told s ds) (go x (nat_eq n x) refl))
+    each_same ns (ms ++ (told s ds ++ told s es)) (ms ++ (told s es ++ told s ds)) (λ x. after_if (is_of_process x) ms (told s ds ++ told s es) (told s es ++ told s ds) (go x (n == x) refl))
   where
-    go : (x : ℕ) (b : Bool) → nat_eq n x ≡ b → filter (is_of_process x) (told s ds ++ told s es) ≡ filter (is_of_process x) (told s es ++ told s ds)
-    go x true e = turned_if (is_of_process x) (told s ds) (told s es) (subst (λ k. filter (is_of_process k) (told s ds) ≡ []) (same_number n x e) (apart_told n big ds apart s holds))
-    go x false e = sym (turned_if (is_of_process x) (told s es) (told s ds) (own_told n x (other_number n x e) es own s))
+    go : (x : ℕ) (b : Bool) → n == x ≡ b → filter (is_of_process x) (told s ds ++ told s es) ≡ filter (is_of_process x) (told s es ++ told s ds)
+    go x true e = turned_if (is_of_process x) (told s ds) (told s es) (subst (λ k. filter (is_of_process k) (told s ds) ≡ []) (same_if n x e) (apart_told n big ds apart s holds))
+    go x false e = sym (turned_if (is_of_process x) (told s es) (told s ds) (own_told n x (other_if n x e) es own s))

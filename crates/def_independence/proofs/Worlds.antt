@@ -15,6 +15,7 @@ use Rattle.def_node.proofs.Steps.{living_here}
 use Rattle.def_explore.specs.Lists.{EachOf}
 use Rattle.def_explore.proofs.Lists.{each_also, each_both}
 use Rattle.def_independence.specs.Alone.{have_link}
+use Rattle.def_independence.proofs.Numbers.{big_if, same_if, other_if, far_if}
 use Rattle.def_independence.proofs.Acts.{IsLeave, AreOwn, grow, grow_none, grow_twice, Does, act_does}
 use Rattle.def_independence.proofs.Slots.{slot_other, slot_own, slot_place, slots_length, slots_swap, slots_then, slot_before, slots_before, gone_other, gone_swap, AllUnlinked, unlinked_at, unlinked_change, unlinked_gone, unlinked_more, none_linked, told_none, no_pids}
 
@@ -83,9 +84,6 @@ child_is w c h = child_if (nat_lt (length w.slots) 64) (100 + length w.slots) c 
 
 -- ---- no process gets a link
 
-most_of : Process → ℕ
-most_of q = 64 + length q.frames
-
 wide_of : (q : Process) → 64 ≤ 64 + length q.frames
 wide_of q = omega arith
 
@@ -142,18 +140,6 @@ pub record Ready (ks : List Function) (n : ℕ) (es : List Event) (w : World) : 
 -- the processes when it has done so
 abbrev pub aside : (ks : List Function) (n : ℕ) (es : List Event) (w : World) → Ready ks n es w → World
 aside ks n es w r = put_at w (n - 100) r.after
-
-far_if : (n m : ℕ) → 100 ≤ n → 100 ≤ m → (m ≡ n → ⊥) → n - 100 ≡ m - 100 → ⊥
-far_if n m big large other e = other (omega (arith, big, large, e))
-
-big_if : (n : ℕ) → nat_le 100 n ≡ true → 100 ≤ n
-big_if n h = grind (arith, nat_tests, h)
-
-same_if : (a b : ℕ) → nat_eq a b ≡ true → a ≡ b
-same_if a b h = grind (arith, nat_tests, h)
-
-other_if : (a b : ℕ) → nat_eq a b ≡ false → a ≡ b → ⊥
-other_if a b h e = grind (arith, nat_tests, h, e)
 
 module _ (ks : List Function) (none : have_link ks ≡ false) (n : ℕ) (big : nat_le 100 n ≡ true) (es : List Event) where
   abbrev At : ℕ
@@ -221,12 +207,12 @@ module _ (ks : List Function) (none : have_link ks ≡ false) (n : ℕ) (big : n
   place_same w r o = ap (λ x. cond (nat_le 100 o) x None) (slot_place w.slots At (o - 100) (λ _. r.after) (o - 100))
 
   got_beside : (w : World) (r : Ready ks n es w) (ds : List Event) (t : Tree) (i : ℕ) → EachOf (IsApart n) ds → Beside (moved (change_at w i (with_message t)) ds) (moved (change_at (aside ks n es w r) i (with_message t)) ds)
-  got_beside w r ds t i apart = go (nat_eq At i) refl
+  got_beside w r ds t i apart = go (At == i) refl
     where
       there : (k : ℕ) → At ≡ k → Beside (moved (change_at w k (with_message t)) ds) (moved (change_at (aside ks n es w r) k (with_message t)) ds)
       there k e = subst (λ k. Beside (moved (change_at w k (with_message t)) ds) (moved (change_at (aside ks n es w r) k (with_message t)) ds)) e (ready_message w t r, message_aside w t r, refl, apart)
 
-      go : (b : Bool) → nat_eq At i ≡ b → Beside (moved (change_at w i (with_message t)) ds) (moved (change_at (aside ks n es w r) i (with_message t)) ds)
+      go : (b : Bool) → At == i ≡ b → Beside (moved (change_at w i (with_message t)) ds) (moved (change_at (aside ks n es w r) i (with_message t)) ds)
       go true e = there i (same_if At i e)
       go false e = let far : At ≡ i → ⊥ = other_if At i e in (ready_change w i (with_message t) far r, change_aside w i (with_message t) far r, refl, apart)
 

@@ -1,15 +1,16 @@
 -- Specifications whose actions are on their own process alone (own).
 -- Depends on expressions, specifications, sessions and runs.
-use Rattle.std.specs.Prelude.{ℕ, suc, nat_le, Bool, true, not, ◌&&◌, List, [], ◌∷◌}
+use Rattle.std.specs.Prelude.{ℕ, suc, nat_le, ◌==◌, Bool, true, not, ◌&&◌, List, [], ◌∷◌, ◌++◌, length}
+use Rattle.std.specs.Str.{bytes_eq}
 use Rattle.def_term.specs.Names.{Name}
-use Rattle.def_script.specs.Program.{Program}
+use Rattle.def_script.specs.Program.{Command, session_of, Program}
 use Rattle.def_spec.specs.Flags.{receive_flag}
 use Rattle.def_spec.specs.Expressions.{Action, enable_trace, disable_trace, trace, Expr, bound_to, whole_list, all_bound, constant, tuple_of, list_of, call, and_also, or_else, perform, Exprs, no_exprs, and_expr}
 use Rattle.def_spec.specs.Outcome.{Clause}
 use Rattle.def_session.specs.Settings.{FunctionSetting, Setting, off, plain, by}
 use Rattle.def_session.specs.State.{Session, flags_at}
 use Rattle.def_run.specs.View.{view}
-use Rattle.def_run.specs.Listing.{state_of}
+use Rattle.def_run.specs.Listing.{messages, state_of}
 
 -- how many expressions
 abbrev pub count_exprs : Exprs → ℕ
@@ -71,3 +72,18 @@ sessions_act_on_self (s ∷ ss) p picks = session_acts_on_self (state_of (view s
 abbrev pub sessions_show_no_receive : List Name → Program → List ℕ → ℕ → Bool
 sessions_show_no_receive [] p picks n = true
 sessions_show_no_receive (s ∷ ss) p picks n = not (flags_at (state_of (view s p picks)) n receive_flag) && sessions_show_no_receive ss p picks n
+
+-- none of these commands is to this session
+abbrev pub none_is_to : Name → List Command → Bool
+none_is_to s [] = true
+none_is_to s (c ∷ cs) = not (bytes_eq s (session_of c)) && none_is_to s cs
+
+-- nor to one of these
+abbrev pub none_is_to_one : List Name → List Command → Bool
+none_is_to_one [] cs = true
+none_is_to_one (s ∷ ss) cs = none_is_to s cs && none_is_to_one ss cs
+
+-- after these picks a pick of the process with this pid adds no message to those of each of these sessions
+abbrev pub sessions_show_nothing : List Name → Program → List ℕ → ℕ → Bool
+sessions_show_nothing [] p picks n = true
+sessions_show_nothing (s ∷ ss) p picks n = (length (messages s p (picks ++ n ∷ [])) == length (messages s p picks)) && sessions_show_nothing ss p picks n

@@ -4,7 +4,7 @@
 //! as laws, that conditions on the state after a journal, which code can test, make such a move independent.
 #![tactic(auto)]
 
-ghost use Rattle.def_independence.specs.Laws.{ReceivesAreIndependent, CallsAreIndependentByProcess};
+ghost use Rattle.def_independence.specs.Laws.{ReceivesAreIndependent, CallsAreIndependentByProcess, MovesWithoutMessagesAreIndependent};
 
 /// A receive that takes a message is independent of all other picks.
 pub fn receives_are_independent()
@@ -15,4 +15,9 @@ pub fn receives_are_independent()
 /// process are asked for alone.
 pub fn calls_are_independent_by_process()
     ensures { CallsAreIndependentByProcess }
+{}
+
+/// So is it whatever is asked, where it adds no message.
+pub fn moves_without_messages_are_independent()
+    ensures { MovesWithoutMessagesAreIndependent }
 {}
