@@ -1,19 +1,18 @@
 -- A move that changes one process alone is independent of all other picks: where the messages of each process are asked for alone, or where the move shows none.
-use Rattle.std.proofs.Common.{◌≡◌, ◌<◌, ◌+◌, ◌-◌, ◌⊎◌, inl, inr, ℕ, zero, suc, List, [], ◌∷◌, ◌++◌, length, map, Bool, true, false, not, ◌&&◌, if◌then◌else◌, cond, slice_get, Option, Some, None, refl, sym, ap, ◌∙◌, subst, append-nil, length-append, arith}
+use Rattle.std.proofs.Common.{◌≡◌, ◌<◌, ◌+◌, ◌-◌, inl, inr, ℕ, zero, suc, List, [], ◌∷◌, ◌++◌, length, map, Bool, true, false, not, if◌then◌else◌, cond, slice_get, Option, Some, None, refl, sym, ap, ◌∙◌, subst, append-nil, length-append, arith}
 use Rattle.std.specs.Prelude.{nat_le, ◌==◌, filter, option_to_list}
 use Rattle.std.specs.Str.{bytes_eq}
-use Rattle.std.proofs.lemmas.Bool.Decides.{nat_tests}
 use Rattle.std.specs.Option.{unwrap_or}
 use Rattle.def_term.specs.Tree.{Tree}
 use Rattle.def_term.specs.Names.{Name}
 use Rattle.def_script.specs.Program.{Function, Command, session_of, Program}
 use Rattle.def_script.specs.Exports.{Exports, exports_of}
 use Rattle.def_spec.specs.Flags.{no_flags, FlagTable, receive_flag, call_flag}
-use Rattle.def_node.specs.Event.{Event, Call, called, returned, raised}
+use Rattle.def_node.specs.Event.{Event, called, returned, raised}
 use Rattle.def_node.specs.Process.{Process, Act, continues, act}
 use Rattle.def_node.specs.Node.{World, Move, moved, idle, next_pid, next_of}
 use Rattle.def_session.specs.State.{Phase, absent, live, destroyed, Session, flags_at}
-use Rattle.def_session.specs.Session.{EventResult, is_marked, is_marked_for_exceptions, reported_for, reported_in, event_reported}
+use Rattle.def_session.specs.Session.{is_marked, is_marked_for_exceptions, reported_for, reported_in, event_reported}
 use Rattle.def_outlook.specs.Outlook.{process_with}
 use Rattle.def_run.specs.Run.{HistoryItem, event_item, command_item, RunState, PickStep, takes_command, goes_to, pick_step_with, pick_step, history_from, run_state_of, moves}
 use Rattle.def_run.specs.View.{is_own, view}
@@ -73,8 +72,7 @@ leaves_calm : (n : ℕ) → nat_le 100 n ≡ true → (es : List Event) → Each
 leaves_calm n big [] leave s holds = holds
 leaves_calm n big (e ∷ es) leave s holds = (
   holds,
-  leaves_calm n big es leave.1 (event_reported s e).0
-  (
+  leaves_calm n big es leave.1 (event_reported s e).0 (
     own_acts n big s holds e (leave_own n e leave.0),
     ap (λ (t : FlagTable). unwrap_or (slice_get t (n - 100)) no_flags receive_flag) (leave_flags n s e leave.0) ∙ holds.1,
   ),
@@ -352,11 +350,10 @@ module _ (q : RunQuestion) (ss : List Name) (p : Program) (j : List ℕ) (n : �
   alone_independent pass acts before after suits others free room =
       let few : length (moves p j) < 65536 = fewer p j others room in
       let own : EachOf (IsOwn (suc n)) g.es = own_events (suc n) g.es g.own in
-      from_all q ss p (suc n) (Meets q ss p none n g.big g.es own) (each_apart q ss p none n g.big g.es own) j
-      (
+      from_all q ss p (suc n) (Meets q ss p none n g.big g.es own) (each_apart q ss p none n g.big g.es own) j (
         g.ready,
         three_of (λ s. Calm (suc n) (state_of (view s p j)) g.es) (λ s. none_is_to s (run_state_of p j).commands ≡ true) (λ s. Suits q (state_of (view s p j)) g.es) ss
-        (calm_at p j (suc n) g.big g.es g.own (shows few) ss acts before after) (pass_at (run_state_of p j).commands ss pass) (suits few),
+            (calm_at p j (suc n) g.big g.es g.own (shows few) ss acts before after) (pass_at (run_state_of p j).commands ss pass) (suits few),
       )
       others free room
 
@@ -372,5 +369,5 @@ unseen_independent q ss p j (suc n) none pass alone acts before after nothing =
     let g : Goes p j (suc n) = goes_of p j (suc n) none alone in
     alone_independent q ss p j n none g pass acts before after
     (λ few.
-        each_also (λ s. told (state_of (view s p j)) g.es ≡ []) (λ s. Suits q (state_of (view s p j)) g.es) ss (λ s h. suits_none q (state_of (view s p j)) g.es h)
-        (nothing_at p j (suc n) g.es (shows q ss p j n none g few) ss nothing))
+    each_also (λ s. told (state_of (view s p j)) g.es ≡ []) (λ s. Suits q (state_of (view s p j)) g.es) ss (λ s h. suits_none q (state_of (view s p j)) g.es h)
+    (nothing_at p j (suc n) g.es (shows q ss p j n none g few) ss nothing))

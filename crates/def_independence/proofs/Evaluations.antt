@@ -1,19 +1,18 @@
 -- What a specification gives that acts on its own process alone depends on that process's flags and life alone, and changes its flags alone.
-use Rattle.std.proofs.Common.{◌≡◌, ◌<◌, ◌≤◌, ℕ, zero, suc, ◌-◌, Bool, true, false, not, ◌&&◌, if◌then◌else◌, cond, List, [], ◌∷◌, ◌++◌, length, slice_get, Option, Some, None, refl, ap, sym, ◌∙◌, subst, arith}
+use Rattle.std.proofs.Common.{◌≡◌, ◌<◌, ◌≤◌, ℕ, zero, suc, ◌-◌, Bool, true, false, ◌&&◌, if◌then◌else◌, List, [], ◌∷◌, length, slice_get, Option, Some, None, refl, ap, sym, ◌∙◌, subst, arith}
 use Rattle.std.specs.Prelude.{nat_le}
 use Rattle.std.specs.Option.{option_map, option_and_then, unwrap_or}
 use Rattle.std.proofs.Math.ListN.{set}
-use Rattle.std.proofs.lemmas.Bool.{and_parts}
 use Rattle.std.proofs.lemmas.Bool.Decides.{nat_tests}
-use Rattle.def_term.specs.Tree.{Tree, pid, tuple, list, of_elements}
+use Rattle.def_term.specs.Tree.{Tree, tuple, list, of_elements}
 use Rattle.def_term.specs.Order.{same}
 use Rattle.def_term.specs.Names.{Mfa, word}
 use Rattle.def_term.specs.Alive.{Alive, is_alive}
 use Rattle.def_spec.specs.Flags.{Flag, Flags, no_flags, only, union, without, silent_flag, flag_named, flags_listed, FlagTable, flags_in, with_flags_in}
 use Rattle.def_spec.specs.Matching.{Bindings, value_bound, bindings_of}
-use Rattle.def_spec.specs.Functions.{Func, truth, is_true, apply}
-use Rattle.def_spec.specs.Expressions.{Dialect, for_calls, for_sends, for_receives, Action, message, return_trace, exception_trace, silent, enable_trace, disable_trace, trace, caller, Expr, bound_to, whole_list, all_bound, constant, tuple_of, list_of, call, and_also, or_else, perform, Exprs, no_exprs, and_expr, Context, Effect, gives_message, traces_return, traces_exception, silences, changes, change_flags, flags_by, flags_after, context_after, living_pid, change, change_by, is_changing, trace_change, trace_on, trace_by, silence, of_calls, caller_term, action_done, Position, in_condition, in_body, Evaluation, comes_to, faults, then_on, or_fault, settle, with_effect, values_bound, evaluation, evaluation_of_all, evaluation_while_true, evaluation_until_true, its_value, its_effects, is_true_value, value, effects_of_all}
-use Rattle.def_spec.specs.Outcome.{Clause, Spec, Outcome, no_match, matched, matched_term, each_true, firing_bindings, or_next, outcome_in, outcome_of}
+use Rattle.def_spec.specs.Functions.{truth, is_true, apply}
+use Rattle.def_spec.specs.Expressions.{Dialect, for_calls, for_sends, for_receives, Action, message, return_trace, exception_trace, silent, enable_trace, disable_trace, trace, caller, Expr, bound_to, whole_list, all_bound, constant, tuple_of, list_of, call, and_also, or_else, perform, Exprs, no_exprs, and_expr, Context, Effect, gives_message, traces_return, traces_exception, silences, changes, change_flags, flags_by, flags_after, context_after, change, change_by, is_changing, trace_change, silence, of_calls, action_done, Position, in_condition, in_body, Evaluation, comes_to, faults, then_on, or_fault, settle, with_effect, evaluation, evaluation_of_all, evaluation_while_true, evaluation_until_true, its_value, its_effects, is_true_value, effects_of_all}
+use Rattle.def_spec.specs.Outcome.{Clause, Outcome, no_match, matched, each_true, firing_bindings, or_next, outcome_in}
 use Rattle.def_explore.specs.Lists.{EachOf}
 use Rattle.def_explore.proofs.Lists.{each_both}
 use Rattle.def_independence.specs.OwnEffects.{count_exprs, names_no_process, acts_on_self, act_on_self, clauses_act_on_self}
@@ -138,7 +137,7 @@ module _ (d : Dialect) (ml : List Tree) (p : ℕ) (cm : Option Mfa) (al bl : Ali
 
   change_same : (on : Bool) (f : Tree)
       → (option_map (λ es. let r : Tree × List Effect = (word "true", es) in r) (change_by on (context_with ml p cm al fl) (f ∷ []))
-          ≡ option_map (λ es. let r : Tree × List Effect = (word "true", es) in r) (change_by on (context_with ml p cm bl gl) (f ∷ [])))
+      ≡ option_map (λ es. let r : Tree × List Effect = (word "true", es) in r) (change_by on (context_with ml p cm bl gl) (f ∷ [])))
       × DoneOwn p (option_map (λ es. let r : Tree × List Effect = (word "true", es) in r) (change_by on (context_with ml p cm al fl) (f ∷ [])))
   change_same on f =
       (ap (λ b. option_map (λ es. let r : Tree × List Effect = (word "true", es) in r) (change on (if b then Some p else None) (flag_named f))) life, change_own on (is_alive al p) (flag_named f))
@@ -166,7 +165,7 @@ module _ (d : Dialect) (ml : List Tree) (p : ℕ) (cm : Option Mfa) (al bl : Ali
   trace_same : (off on : Tree) → DoneSame trace (off ∷ on ∷ [])
   trace_same off on = (
     trace_at (is_alive al p) (flags_listed off) (flags_listed on)
-    ∙ ap (λ b. trace_change (context_with ml p cm bl gl) (if b then Some p else None) (flags_listed off) (flags_listed on)) life,
+        ∙ ap (λ b. trace_change (context_with ml p cm bl gl) (if b then Some p else None) (flags_listed off) (flags_listed on)) life,
     trace_own (is_alive al p) (flags_listed off) (flags_listed on),
   )
 
@@ -266,8 +265,8 @@ module _ (d : Dialect) (b : Bindings) (ml : List Tree) (p : ℕ) (cm : Option Mf
           (λ t y. then_on (evaluation_of_all d part b here es y) (λ ts z. comes_to (t ∷ ts) z)) (λ t y. then_on (evaluation_of_all d part b there es y) (λ ts z. comes_to (t ∷ ts) z))
           (first x own).0 (first x own).1
           (λ t y _ o.
-              then_same p (HasCount es) (HasCount (and_expr e es)) (evaluation_of_all d part b here es y) (evaluation_of_all d part b there es y) (λ ts z. comes_to (t ∷ ts) z) (λ ts z. comes_to (t ∷ ts) z)
-              (rest y o).0 (rest y o).1 (λ ts z count own. (refl, (ap suc count, own))))
+          then_same p (HasCount es) (HasCount (and_expr e es)) (evaluation_of_all d part b here es y) (evaluation_of_all d part b there es y) (λ ts z. comes_to (t ∷ ts) z) (λ ts z. comes_to (t ∷ ts) z)
+          (rest y o).0 (rest y o).1 (λ ts z count own. (refl, (ap suc count, own))))
 
       same_while : (es : Exprs) → Fine part (act_on_self es) → SameWhile es
       same_while no_exprs fine x own = (refl, (tt, own))
@@ -344,6 +343,6 @@ module _ (d : Dialect) (ml : List Tree) (p : ℕ) (cm : Option Mfa) (al bl : Ali
       whole : OutcomeSame ks → (outcome_in d (k ∷ ks) (context_with ml p cm al fl) ≡ outcome_in d (k ∷ ks) (context_with ml p cm bl gl)) × OwnOutcome p (outcome_in d (k ∷ ks) (context_with ml p cm al fl))
       whole rest = (
         (go rest (firing_bindings d k (context_with ml p cm al fl))).0
-        ∙ ap (λ o. or_next d o (context_with ml p cm bl gl) k.body (outcome_in d ks (context_with ml p cm bl gl))) (firing_same k),
+            ∙ ap (λ o. or_next d o (context_with ml p cm bl gl) k.body (outcome_in d ks (context_with ml p cm bl gl))) (firing_same k),
         (go rest (firing_bindings d k (context_with ml p cm al fl))).1,
       )

@@ -1,18 +1,17 @@
 -- An event of a process, and an event apart from it: whichever comes first, both lead to the same session, and show the same.
-use Rattle.std.proofs.Common.{◌≡◌, ℕ, zero, suc, ◌-◌, ◌≤◌, Bool, true, false, ◌&&◌, if◌then◌else◌, cond, List, [], ◌∷◌, slice_get, Option, Some, None, refl, ap, sym, ◌∙◌, subst, arith}
+use Rattle.std.proofs.Common.{◌≡◌, ℕ, ◌-◌, Bool, true, false, ◌&&◌, if◌then◌else◌, cond, List, slice_get, Option, None, refl, ap, sym, ◌∙◌, subst}
 use Rattle.std.specs.Prelude.{nat_le, ◌==◌}
 use Rattle.std.specs.Option.{unwrap_or}
 use Rattle.std.proofs.Math.ListN.{set}
-use Rattle.std.proofs.lemmas.Bool.Decides.{nat_tests}
-use Rattle.def_term.specs.Tree.{Tree, pid}
-use Rattle.def_term.specs.Names.{Mfa, word}
+use Rattle.def_term.specs.Tree.{Tree}
+use Rattle.def_term.specs.Names.{Mfa}
 use Rattle.def_term.specs.Alive.{Alive, with_alive}
-use Rattle.def_spec.specs.Flags.{Flags, no_flags, FlagTable, receive_flag, after_spawn}
+use Rattle.def_spec.specs.Flags.{Flags, no_flags, receive_flag, after_spawn}
 use Rattle.def_spec.specs.Expressions.{Effect}
 use Rattle.def_node.specs.Event.{Event, sent, received, called, returned, raised, spawning, spawned, exited, linked, unlinked, getting_linked, getting_unlinked}
 use Rattle.def_session.specs.State.{Phase, absent, live, destroyed, Mark, Session, flags_at, alive_after}
 use Rattle.def_session.specs.Messages.{process_of}
-use Rattle.def_session.specs.Session.{with_both, inherit, evaluated_by, context, effects_of, EventResult, reported_for, reported_in, event_reported}
+use Rattle.def_session.specs.Session.{with_both, inherit, effects_of, EventResult, reported_for, reported_in, event_reported}
 use Rattle.def_independence.specs.OwnEffects.{setting_acts_on_self, functions_act_on_self, session_acts_on_self}
 use Rattle.def_independence.proofs.Numbers.{large_if, big_if, same_if, other_if, far_if}
 use Rattle.def_independence.proofs.Worlds.{IsElse, IsApart}
@@ -174,8 +173,7 @@ module _ (n : ℕ) (big : nat_le 100 n ≡ true) (s : Session) (e : Event) (othe
       let after : Like At x (reported x).0 =
       subst (Like At x) (ap (λ (r : EventResult). r.0) (sym base.first)) (like_touch Place At x base.flags base.marks base.life (λ k. far (sym k))) in
       let both : (fl : Flags) (ms : List Mark) (b : Bool) → Goes Place x (touch At x fl ms b) (reported x) (reported (touch At x fl ms b)) =
-      λ fl ms b. effects_go e large x (touch At x fl ms b) (like_touch At Place x fl ms b far) acts_then in
-      (
+      λ fl ms b. effects_go e large x (touch At x fl ms b) (like_touch At Place x fl ms b far) acts_then in (
         like_then At s x (reported x).0 inherits.like after,
         λ fl ms b.
             ap reported (inherits.goes fl ms b)

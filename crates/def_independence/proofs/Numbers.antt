@@ -1,6 +1,6 @@
 -- Tests of numbers, and of both of two.
 use Rattle.std.proofs.Common.{◌≡◌, ◌≤◌, ◌-◌, ℕ, Bool, true, false, not, ◌&&◌, refl, arith}
-use Rattle.std.specs.Prelude.{nat_le, nat_eq, ◌==◌}
+use Rattle.std.specs.Prelude.{nat_le, ◌==◌}
 use Rattle.std.proofs.lemmas.Bool.Decides.{nat_tests}
 
 pub large_if : (n : ℕ) → 100 ≤ n → nat_le 100 n ≡ true

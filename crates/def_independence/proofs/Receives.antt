@@ -10,17 +10,16 @@ use Rattle.def_node.specs.Process.{Process, Frame, Act, continues, with_frames, 
 use Rattle.def_node.specs.Node.{World, next_pid}
 use Rattle.def_session.specs.State.{absent_session}
 use Rattle.def_outlook.specs.Outlook.{has_no_message, upcoming_in, upcoming_of, upcoming_first, upcoming_after, living_at, process_with}
-use Rattle.def_run.specs.Run.{HistoryItem, RunState, PickStep, pick_step, history_from, run_state_after, start, run_state_of, events, moves}
+use Rattle.def_run.specs.Run.{RunState, PickStep, pick_step, start, run_state_of, events, moves}
 use Rattle.def_run.specs.View.{is_own}
 use Rattle.def_run.specs.Listing.{messages_from}
 use Rattle.def_run.proofs.Appends.{shown-append, place-append}
 use Rattle.def_explore.specs.Rests.{RunQuestion, kept_of}
 use Rattle.def_explore.specs.Alike.{IsStateAlike}
 use Rattle.def_explore.proofs.Alike.{by_events}
-use Rattle.def_independence.specs.Alone.{have_link, takes_by, takes_with, takes_message, one_takes, is_alone, one_goes_alone}
+use Rattle.def_independence.specs.Alone.{have_link, takes_by, takes_with, takes_message, one_takes}
 use Rattle.def_independence.specs.Laws.{ReceivesAreIndependent}
 use Rattle.def_independence.proofs.Acts.{AreOwn, grow, Does, act_does}
-use Rattle.def_independence.proofs.Slots.{AllUnlinked}
 use Rattle.def_independence.proofs.Worlds.{Ready}
 use Rattle.def_independence.proofs.Runs.{run_unlinked, room_left, Crossing, own_step, crossing}
 use Rattle.def_independence.proofs.Picks.{fewer, IsApartFromEach, from_all}

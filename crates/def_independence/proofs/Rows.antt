@@ -3,10 +3,9 @@ use Rattle.std.proofs.Common.{◌≡◌, ℕ, List, [], ◌∷◌, ◌++◌, tru
 use Rattle.std.specs.Prelude.{None}
 use Rattle.def_term.specs.Tree.{Tree, pid}
 use Rattle.def_term.specs.Names.{Name, word}
-use Rattle.def_spec.specs.Expressions.{Expr, constant, perform, enable_trace, disable_trace, trace, message, no_exprs, and_expr, for_calls}
-use Rattle.def_spec.specs.Matching.{anything}
+use Rattle.def_spec.specs.Expressions.{constant, perform, enable_trace, disable_trace, trace, message, no_exprs, and_expr}
 use Rattle.def_script.specs.Program.{Step, send, receive, link, unlink, Program}
-use Rattle.def_session.specs.Settings.{off, plain, by}
+use Rattle.def_session.specs.Settings.{off}
 use Rattle.def_run.specs.Run.{run_state_of}
 use Rattle.def_run.specs.Listing.{messages}
 use Rattle.def_run.proofs.Samples.{number, braces, brackets, function, entry, program, call_named, creates, sets, mfa_of, sets_function}

@@ -1,9 +1,9 @@
 -- A process's own move, and another pick: whichever comes first, both lead to the same state of a run.
-use Rattle.std.proofs.Common.{◌≡◌, ◌⊎◌, inl, inr, ℕ, zero, suc, ◌+◌, ◌<◌, Bool, true, false, List, [], ◌∷◌, ◌++◌, length, map, refl, ap, sym, ◌∙◌, subst, append-nil, arith}
+use Rattle.std.proofs.Common.{◌≡◌, ◌⊎◌, inl, inr, ℕ, zero, suc, ◌+◌, ◌<◌, true, false, List, [], ◌∷◌, ◌++◌, length, map, refl, ap, sym, ◌∙◌, subst, append-nil, arith}
 use Rattle.std.specs.Prelude.{nat_le}
 use Rattle.def_script.specs.Program.{Function, Command, Program}
 use Rattle.def_node.specs.Event.{Event}
-use Rattle.def_node.specs.Node.{World, Move, moved, idle, next_of}
+use Rattle.def_node.specs.Node.{Move, moved, idle, next_of}
 use Rattle.def_node.specs.Limits.{world_after}
 use Rattle.def_run.specs.Run.{HistoryItem, event_item, command_item, RunState, PickStep, stays, takes_command, goes_to, pick_step_in, pick_step_with, pick_step, history_from, run_state_after, start, run_state_of, moves}
 use Rattle.def_run.proofs.Replay.{room_spent}

@@ -1,5 +1,5 @@
 -- An event of a process changes that process's flags, marks and life alone, and depends on them alone, where the settings act on the own process.
-use Rattle.std.proofs.Common.{◌≡◌, ℕ, zero, suc, ◌-◌, Bool, true, false, not, ◌&&◌, ◌||◌, if◌then◌else◌, cond, List, [], ◌∷◌, slice_get, Option, Some, None, refl, ap, sym, ◌∙◌, subst}
+use Rattle.std.proofs.Common.{◌≡◌, ℕ, zero, suc, ◌-◌, Bool, true, false, not, ◌||◌, if◌then◌else◌, cond, List, [], ◌∷◌, slice_get, Option, Some, None, refl, ap, sym, ◌∙◌, subst}
 use Rattle.std.specs.Prelude.{nat_le, ◌==◌, filter, is_some}
 use Rattle.std.specs.Option.{unwrap_or}
 use Rattle.std.proofs.Math.ListN.{set}
@@ -7,14 +7,13 @@ use Rattle.def_term.specs.Tree.{Tree, pid}
 use Rattle.def_term.specs.Names.{Mfa, word}
 use Rattle.def_term.specs.Alive.{Alive, with_alive}
 use Rattle.def_spec.specs.Flags.{Flag, Flags, no_flags, FlagTable, flags_in, send_flag, receive_flag, call_flag, procs_flag, silent_flag, arity_flag, only, union, without}
-use Rattle.def_spec.specs.Expressions.{Context, Effect, gives_message, traces_return, traces_exception, silences, changes, change_flags, flags_by, flags_after}
+use Rattle.def_spec.specs.Expressions.{Effect, gives_message, traces_return, traces_exception, silences, changes, change_flags, flags_by, flags_after}
 use Rattle.def_spec.specs.Outcome.{Outcome, no_match, matched, outcome_of}
 use Rattle.def_node.specs.Event.{Event, Call, sent, received, called, returned, raised, spawning, spawned, exited, linked, unlinked, getting_linked, getting_unlinked}
 use Rattle.def_session.specs.Settings.{FunctionSetting, Setting, off, plain, by, has_among, setting_for}
-use Rattle.def_session.specs.State.{Phase, absent, live, destroyed, MarkKind, for_exceptions, Mark, Session, flags_at, with_flags, marks_at, with_marks, kind_among, alive_after}
+use Rattle.def_session.specs.State.{MarkKind, Mark, Session, flags_at, marks_at, with_marks, kind_among}
 use Rattle.def_session.specs.Messages.{elements_of, process_of, last_message, message_by}
-use Rattle.def_session.specs.Session.{effects_of_outcome, evaluated_by, context, is_for_exceptions, where_set, where_marked, effects_of, is_silenced, message_after, all_affected, mark_asked, mark_frame, unmark_frame, finish, EventResult, reported_for}
-use Rattle.def_explore.specs.Lists.{EachOf}
+use Rattle.def_session.specs.Session.{effects_of_outcome, evaluated_by, context, is_for_exceptions, where_set, where_marked, effects_of, is_silenced, message_after, all_affected, mark_asked, mark_frame, finish, EventResult, reported_for}
 use Rattle.def_independence.specs.OwnEffects.{setting_acts_on_self, functions_act_on_self, session_acts_on_self}
 use Rattle.def_independence.proofs.Numbers.{both_true}
 use Rattle.def_independence.proofs.Evaluations.{set_alike, IsOwnEffect, AreOwnEffects, after_alike, context_with, OwnOutcome, outcome_same}
@@ -296,7 +295,7 @@ module _ (e : Event) (big : nat_le 100 (process_of e) ≡ true) (s t : Session) 
   reported_goes None own =
       subst (λ x. Goes Place s t (finish x e [], None) (finish t e [], None)) (touch_same Place s)
       (subst (λ y. Goes Place s t (finish (touch Place s (flags_of Place s) (marks_of Place s) (life_of Place s)) e [], None) (finish y e [], None)) (touch_by Place s t like)
-        (finish_goes e big s t like (flags_of Place s) (marks_of Place s) (life_of Place s) [] None))
+      (finish_goes e big s t like (flags_of Place s) (marks_of Place s) (life_of Place s) [] None))
   reported_goes (Some es) own =
       let p : ℕ = process_of e in
       let s1 : Session = all_affected p s es in
@@ -310,7 +309,7 @@ module _ (e : Event) (big : nat_le 100 (process_of e) ≡ true) (s t : Session) 
       let says : message_after s1 e es ≡ message_after t1 e es = message_same e es s1 t1 (ap (λ o. unwrap_or o no_flags) (after_alike p es own s.flags t.flags like.flags)) in
       subst (λ x. Goes Place s t (finish x e es, m) (finish t1 e es, message_after t1 e es)) from
       (subst (λ y. Goes Place s t (finish u e es, m) y) (λ i. let r : EventResult = (finish (to i) e es, says i) in r)
-        (finish_goes e big s t like now (marks_of Place s) (life_of Place s) es m))
+      (finish_goes e big s t like now (marks_of Place s) (life_of Place s) es m))
 
   -- it goes the same way from both
   pub effects_go : session_acts_on_self s ≡ true → Goes Place s t (reported_for s e (effects_of s e)) (reported_for t e (effects_of t e))

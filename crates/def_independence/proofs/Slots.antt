@@ -5,7 +5,7 @@ use Rattle.std.proofs.Math.ListN.{set}
 use Rattle.std.specs.Option.{option_map, unwrap_or}
 use Rattle.def_term.specs.Tree.{Tree}
 use Rattle.def_node.specs.Process.{Process}
-use Rattle.def_node.specs.Node.{with_slot, place_in, part, partners_told, partner_pids, is_linked}
+use Rattle.def_node.specs.Node.{with_slot, place_in, partners_told, partner_pids, is_linked}
 
 -- ---- one change
 

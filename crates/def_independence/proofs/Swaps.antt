@@ -1,11 +1,10 @@
 -- Events of a process, and events apart from it: whichever come first, both lead to the same session, and show the same of each process.
-use Rattle.std.proofs.Common.{◌≡◌, ℕ, zero, suc, Bool, true, false, cond, List, [], ◌∷◌, ◌++◌, map, Option, Some, None, refl, ap, sym, ◌∙◌, subst, append_assoc, append-nil, arith}
+use Rattle.std.proofs.Common.{◌≡◌, ℕ, Bool, true, false, cond, List, [], ◌∷◌, ◌++◌, Option, Some, None, refl, ap, sym, ◌∙◌, subst, append_assoc, append-nil}
 use Rattle.std.specs.Prelude.{nat_le, ◌==◌, filter, option_to_list, if◌then◌else◌}
-use Rattle.std.proofs.lemmas.Bool.Decides.{nat_tests}
 use Rattle.def_term.specs.Tree.{Tree, pid, tuple, of_elements}
 use Rattle.def_term.specs.Order.{same}
 use Rattle.def_term.specs.Names.{word}
-use Rattle.def_spec.specs.Flags.{receive_flag, arity_flag}
+use Rattle.def_spec.specs.Flags.{arity_flag}
 use Rattle.def_spec.specs.Expressions.{Effect}
 use Rattle.def_node.specs.Event.{Event, sent, received, called, returned, raised, spawning, spawned, exited, linked, unlinked, getting_linked, getting_unlinked}
 use Rattle.def_session.specs.State.{Phase, absent, live, destroyed, Session, flags_at}
@@ -14,7 +13,7 @@ use Rattle.def_session.specs.Session.{inherit, effects_of, is_silenced, message_
 use Rattle.def_explore.specs.Lists.{EachOf}
 use Rattle.def_explore.specs.Rests.{is_of_process, each_process}
 use Rattle.def_independence.proofs.Numbers.{same_if, other_if, not_same}
-use Rattle.def_independence.proofs.Worlds.{IsElse, IsApart}
+use Rattle.def_independence.proofs.Worlds.{IsApart}
 use Rattle.def_independence.proofs.Events.{IsOwn, Holds, deaf, Both, both, apart_holds}
 
 -- ---- several events

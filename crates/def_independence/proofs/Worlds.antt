@@ -1,14 +1,13 @@
 -- A move of one process alone, and a move of another: whichever comes first, both lead to the same processes.
-use Rattle.std.proofs.Common.{◌≡◌, ◌⊎◌, inl, inr, ℕ, zero, suc, ◌+◌, ◌-◌, ◌<◌, ◌≤◌, Bool, true, false, cond, List, [], ◌∷◌, ◌++◌, length, map, slice_get, Option, Some, None, refl, ap, sym, ◌∙◌, subst, arith}
-use Rattle.std.specs.Prelude.{nat_le, nat_lt, nat_eq, ◌==◌, replicate}
+use Rattle.std.proofs.Common.{◌≡◌, inl, inr, ℕ, ◌+◌, ◌-◌, ◌<◌, ◌≤◌, Bool, true, false, cond, List, [], ◌∷◌, ◌++◌, length, map, slice_get, Option, Some, None, refl, ap, sym, ◌∙◌, subst, arith}
+use Rattle.std.specs.Prelude.{nat_le, nat_lt, ◌==◌, replicate}
 use Rattle.std.proofs.Math.ListN.{set}
-use Rattle.std.proofs.lemmas.Bool.Decides.{nat_tests}
 use Rattle.std.proofs.lemmas.Option.{slice_get_within}
 use Rattle.def_term.specs.Tree.{Tree}
 use Rattle.def_script.specs.Program.{Function, Entry}
-use Rattle.def_node.specs.Event.{Event, Call, sent, received, called, returned, raised, spawning, spawned, exited, linked, unlinked, getting_linked, getting_unlinked}
+use Rattle.def_node.specs.Event.{Event, sent, received, called, returned, raised, spawning, spawned, exited, linked, unlinked, getting_linked, getting_unlinked}
 use Rattle.def_node.specs.Process.{Process, Act, waits, continues, sends, links_to, unlinks_from, spawns, exits, act}
-use Rattle.def_node.specs.Node.{World, Move, moved, idle, place_of_pid, with_slot, change_at, put_at, with_message, delivered_to, deliver, linked_in, linked_at, is_linked, link_removed, unlinked_from, partners_told, partner_pids, exit_process, fresh, next_pid, start_process, after_act, stepped_at, next_of, opening_world}
+use Rattle.def_node.specs.Node.{World, Move, moved, idle, place_of_pid, with_slot, change_at, put_at, with_message, delivered_to, deliver, linked_in, linked_at, link_removed, unlinked_from, exit_process, fresh, next_pid, start_process, after_act, stepped_at, next_of, opening_world}
 use Rattle.def_node.specs.Limits.{IsOwnAct, world_after}
 use Rattle.def_node.proofs.Acts.{act_own}
 use Rattle.def_node.proofs.Steps.{living_here}
@@ -277,7 +276,7 @@ module _ (ks : List Function) (none : have_link ks ≡ false) (n : ℕ) (big : n
       let next : next_pid (aside ks n es w r) ≡ next_pid w = ap (λ x. cond (nat_lt x 64) (Some (100 + x)) None) (slots_length w.slots At (λ _. r.after)) in
       subst (λ c. Beside (after_act w k m (act ks m (next_pid w) q)) (after_act (aside ks n es w r) k m (act ks m c q))) (sym next)
       (acted_beside w r m k other far (64 + length q.frames) q (act ks m (next_pid w) q) (act ks m (next_pid w) (grow [] q)) here (unlinked_at w.slots k q all here)
-        (act_does m [] ks (next_pid w) (next_pid w) q none) (act_own (64 + length q.frames) (wide_of q) ks m (next_pid w) q (few_of q)))
+      (act_does m [] ks (next_pid w) (next_pid w) q none) (act_own (64 + length q.frames) (wide_of q) ks m (next_pid w) q (few_of q)))
 
   pub next_beside : (w : World) (r : Ready ks n es w) (m : ℕ) → (m ≡ n → ⊥) → AllUnlinked w.slots → Beside (next_of ks w m) (next_of ks (aside ks n es w r) m)
   next_beside w r m other all = go (nat_le 100 m) refl
