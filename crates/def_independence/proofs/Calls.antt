@@ -358,16 +358,16 @@ module _ (q : RunQuestion) (ss : List Name) (p : Program) (j : List ℕ) (n : �
       others free room
 
 pub calls_independent : CallsAreIndependentByProcess
-calls_independent ss p j zero none pass alone acts before after = absurd (let x : false ≡ true = alone in cc)
-calls_independent ss p j (suc n) none pass alone acts before after =
-    let g : Goes p j (suc n) = goes_of p j (suc n) none alone in
-    alone_independent by_process ss p j n none g pass acts before after (λ few. suits_process p j g.es ss)
+calls_independent ss p j zero h = absurd (let x : false ≡ true = h.alone in cc)
+calls_independent ss p j (suc n) h =
+    let g : Goes p j (suc n) = goes_of p j (suc n) h.links h.alone in
+    alone_independent by_process ss p j n h.links g h.commands h.effects h.before h.after (λ few. suits_process p j g.es ss)
 
 pub unseen_independent : MovesWithoutMessagesAreIndependent
-unseen_independent q ss p j zero none pass alone acts before after nothing = absurd (let x : false ≡ true = alone in cc)
-unseen_independent q ss p j (suc n) none pass alone acts before after nothing =
-    let g : Goes p j (suc n) = goes_of p j (suc n) none alone in
-    alone_independent q ss p j n none g pass acts before after
+unseen_independent q ss p j zero h nothing = absurd (let x : false ≡ true = h.alone in cc)
+unseen_independent q ss p j (suc n) h nothing =
+    let g : Goes p j (suc n) = goes_of p j (suc n) h.links h.alone in
+    alone_independent q ss p j n h.links g h.commands h.effects h.before h.after
     (λ few.
-    each_also (λ s. told (state_of (view s p j)) g.es ≡ []) (λ s. Suits q (state_of (view s p j)) g.es) ss (λ s h. suits_none q (state_of (view s p j)) g.es h)
-    (nothing_at p j (suc n) g.es (shows q ss p j n none g few) ss nothing))
+        each_also (λ s. told (state_of (view s p j)) g.es ≡ []) (λ s. Suits q (state_of (view s p j)) g.es) ss (λ s h. suits_none q (state_of (view s p j)) g.es h)
+        (nothing_at p j (suc n) g.es (shows q ss p j n h.links g few) ss nothing))

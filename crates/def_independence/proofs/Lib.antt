@@ -5,6 +5,7 @@ pub mod Worlds
 pub mod Runs
 pub mod Picks
 pub mod Receives
+pub mod NextSteps
 pub mod Evaluations
 pub mod Sessions
 pub mod Events

@@ -1,14 +1,16 @@
 -- What is independent of each other pick is independent of all others.
 use Rattle.std.proofs.Common.{◌≡◌, ◌<◌, ◌+◌, ℕ, List, [], ◌∷◌, ◌++◌, length, Bool, true, false, ◌||◌, refl, sym, ap, ◌∙◌, arith, append_assoc, append-nil, length-append, subst}
 use Rattle.std.specs.Prelude.{All, ◌==◌}
+use Rattle.std.proofs.lemmas.Bool.Decides.{nat_tests}
 use Rattle.std.proofs.lemmas.List.Elements.{All-head, All-tail}
 use Rattle.def_term.specs.Names.{Name}
 use Rattle.def_script.specs.Program.{Program}
 use Rattle.def_run.specs.Run.{moves}
 use Rattle.def_run.proofs.Runs.{runs_grow}
 use Rattle.def_explore.specs.Rests.{IsMovingAfter, RunQuestion}
-use Rattle.def_explore.specs.Alike.{IsStateAlike, is_pick_among, AreIndependent}
+use Rattle.def_explore.specs.Alike.{IsStateAlike, HasStateOf, is_pick_among, AreIndependent, HasFirstPicks}
 use Rattle.def_explore.proofs.Alike.{goes_on, alike_then, alike_same}
+use Rattle.def_independence.specs.Laws.{OnePickGoesFirst}
 use Rattle.def_independence.proofs.Numbers.{same_if, other_if}
 
 or_false : (b : Bool) → (b || false) ≡ true → b ≡ true
@@ -58,3 +60,15 @@ module _ (q : RunQuestion) (ss : List Name) (p : Program) (t : ℕ) (Meets : Lis
   pub from_all : (j : List ℕ) → Meets j → AreIndependent q ss p j (t ∷ [])
   from_all j m others free room one there =
       subst (λ x. IsMovingAfter p (j ++ others) x × IsStateAlike q ss p ((j ++ others) ++ x ∷ []) (j ++ x ∷ others)) (same_if t one (or_false (t == one) there)) (from_each others j m free room)
+
+same_self : (t : ℕ) → (t == t) ≡ true
+same_self t = grind (arith, nat_tests)
+
+pub one_goes_first : OnePickGoesFirst
+one_goes_first q ss p js j t independent there = record {
+  picks = t ∷ [];
+  one = t;
+  there = ap (λ b. b || false) (same_self t);
+  independent = independent;
+  next = λ x h. subst (λ y. HasStateOf q ss p js (j ++ y ∷ [])) (same_if t x (or_false (t == x) h)) there;
+}

@@ -17,8 +17,8 @@ use Rattle.def_run.proofs.Appends.{shown-append, place-append}
 use Rattle.def_explore.specs.Rests.{RunQuestion, kept_of}
 use Rattle.def_explore.specs.Alike.{IsStateAlike}
 use Rattle.def_explore.proofs.Alike.{by_events}
-use Rattle.def_independence.specs.Alone.{have_link, takes_by, takes_with, takes_message, one_takes}
-use Rattle.def_independence.specs.Laws.{ReceivesAreIndependent}
+use Rattle.def_independence.specs.Alone.{have_link, takes_by, takes_with, takes_message, one_takes, is_alone}
+use Rattle.def_independence.specs.Laws.{ReceivesAreIndependent, ReceivesGoAlone}
 use Rattle.def_independence.proofs.Acts.{AreOwn, grow, Does, act_does}
 use Rattle.def_independence.proofs.Worlds.{Ready}
 use Rattle.def_independence.proofs.Runs.{run_unlinked, room_left, Crossing, own_step, crossing}
@@ -146,3 +146,6 @@ receives_independent q ss p j (suc n) none h =
     let there : (nat_le 100 (suc n) ≡ true) × (slice_get w.slots (suc n - 100) ≡ Some (Some one.0)) = present w (suc n) one.0 one.1 in
     let takes : (u : Process) × (act p.functions (suc n) (next_pid w) one.0 ≡ continues u []) = act_takes p.functions (suc n) (next_pid w) one.0 one.2 in
     from_all q ss p (suc n) (ReadyAfter p none n there.0 []) (silent_apart q ss p none n there.0) j (ready_by p.functions none w (suc n) one.0 takes.0 [] there.1 takes.1)
+
+pub receives_go_alone : ReceivesGoAlone
+receives_go_alone ks n child q h = ap is_alone (act_takes ks n child q h).1

@@ -11,7 +11,7 @@ use Rattle.def_run.specs.Listing.{messages}
 use Rattle.def_run.proofs.Samples.{number, braces, brackets, function, entry, program, call_named, creates, sets, mfa_of, sets_function}
 use Rattle.def_explore.specs.Rests.{all_messages, by_process}
 use Rattle.def_explore.specs.Alike.{AreIndependent}
-use Rattle.def_independence.specs.Alone.{have_link, takes_message_after, goes_alone_after}
+use Rattle.def_independence.specs.Alone.{have_link, takes_message_after, goes_alone_after, goes_alone_by}
 use Rattle.def_independence.specs.OwnEffects.{acts_on_self, setting_acts_on_self, sessions_act_on_self, sessions_show_no_receive, none_is_to_one, sessions_show_nothing}
 use Rattle.def_independence.proofs.Receives.{receives_independent}
 use Rattle.def_independence.proofs.Calls.{calls_independent, unseen_independent}
@@ -99,7 +99,7 @@ shows_no_receive = refl
 
 -- so its pick is independent of all others, where the order of messages of different processes isn't asked for
 call_first : AreIndependent by_process asked sends commands (101 ∷ [])
-call_first = calls_independent asked sends commands 101 refl refl refl refl refl refl
+call_first = calls_independent asked sends commands 101 (record { links = refl; alone = refl; commands = refl; effects = refl; before = refl; after = refl })
 
 -- a command to the session is left before its third, and none to another session
 a_command_left : none_is_to_one asked (run_state_of sends (0 ∷ 0 ∷ [])).commands ≡ false
@@ -113,7 +113,7 @@ shows_no_call : sessions_show_nothing asked sends commands 100 ≡ true
 shows_no_call = refl
 
 unseen_first : AreIndependent all_messages asked sends commands (100 ∷ [])
-unseen_first = unseen_independent all_messages asked sends commands 100 refl refl refl refl refl refl refl
+unseen_first = unseen_independent all_messages asked sends commands 100 (record { links = refl; alone = refl; commands = refl; effects = refl; before = refl; after = refl }) refl
 
 shows_call : sessions_show_nothing asked sends commands 101 ≡ false
 shows_call = refl

@@ -1,3 +1,4 @@
 pub mod Alone
 pub mod OwnEffects
+pub mod Conditions
 pub mod Laws
