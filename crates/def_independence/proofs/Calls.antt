@@ -369,5 +369,5 @@ unseen_independent q ss p j (suc n) h nothing =
     let g : Goes p j (suc n) = goes_of p j (suc n) h.links h.alone in
     alone_independent q ss p j n h.links g h.commands h.effects h.before h.after
     (λ few.
-        each_also (λ s. told (state_of (view s p j)) g.es ≡ []) (λ s. Suits q (state_of (view s p j)) g.es) ss (λ s h. suits_none q (state_of (view s p j)) g.es h)
-        (nothing_at p j (suc n) g.es (shows q ss p j n h.links g few) ss nothing))
+    each_also (λ s. told (state_of (view s p j)) g.es ≡ []) (λ s. Suits q (state_of (view s p j)) g.es) ss (λ s h. suits_none q (state_of (view s p j)) g.es h)
+    (nothing_at p j (suc n) g.es (shows q ss p j n h.links g few) ss nothing))

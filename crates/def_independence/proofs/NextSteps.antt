@@ -1,5 +1,5 @@
 -- What is known of the next step of a process tells whether it changes that process alone.
-use Rattle.std.proofs.Common.{◌≡◌, ℕ, suc, Bool, true, false, not, ◌&&◌, if◌then◌else◌, cond, List, [], ◌∷◌, length, map, slice_get, Option, Some, None, refl, sym, ap, ◌∙◌, arith}
+use Rattle.std.proofs.Common.{◌≡◌, ℕ, suc, Bool, true, false, ◌&&◌, if◌then◌else◌, List, [], ◌∷◌, length, map, slice_get, Option, Some, None, refl, sym, ap, ◌∙◌, arith}
 use Rattle.std.specs.Prelude.{nat_le, is_none, is_some}
 use Rattle.std.proofs.lemmas.Bool.Decides.{nat_tests}
 use Rattle.def_term.specs.Tree.{Tree, pid_in}
@@ -7,10 +7,10 @@ use Rattle.def_term.specs.Names.{Name, word}
 use Rattle.def_script.specs.Program.{Class, Step, send, receive, call_remote, call_local, catch, spawn, link, unlink, give_back, raise, Function, Entry, entry_mfa, number_from}
 use Rattle.def_node.specs.Event.{Event}
 use Rattle.def_node.specs.Values.{instance_of, fits, fit, all_fit, fitting_all}
-use Rattle.def_node.specs.Process.{FRAMES, Process, Frame, Exception, Manner, Act, continues, exits, with_frames, step_on, next_step, remotely, locally, catch_manner, exception_of, kept_by, catch_target, raises_to, raises, enters, enters_at, leaves, to_pid, receives, within, calls, spawns_at, performs, runs_in, runs, begins, act_after, act}
+use Rattle.def_node.specs.Process.{Process, Frame, Exception, Manner, Act, continues, exits, with_frames, step_on, next_step, remotely, locally, catch_manner, exception_of, kept_by, catch_target, raises_to, raises, enters, enters_at, leaves, to_pid, receives, within, calls, spawns_at, performs, runs_in, runs, begins, act_after}
 use Rattle.def_node.specs.Limits.{IsEntered}
-use Rattle.def_outlook.specs.Outlook.{RuntimeError, builds_past_limit, calls_past_limit, error_past, error_entering_at, error_entering, error_calling, error_of_step, error_ahead, runtime_error, upcoming_in, upcoming_of, upcoming_first, upcoming_after, catch_depth}
-use Rattle.def_independence.specs.Alone.{is_alone, alone_by, alone_with, goes_alone_by}
+use Rattle.def_outlook.specs.Outlook.{calls_past_limit, error_past, error_entering_at, error_entering, error_calling, error_of_step, error_ahead, upcoming_in, upcoming_of, upcoming_first, upcoming_after, catch_depth}
+use Rattle.def_independence.specs.Alone.{is_alone, alone_by, alone_with}
 use Rattle.def_independence.specs.Laws.{AloneIsOfTheStep}
 
 -- ---- acts that are never alone

@@ -8,7 +8,7 @@ use Rattle.def_script.specs.Program.{Program}
 use Rattle.def_run.specs.Run.{moves}
 use Rattle.def_run.proofs.Runs.{runs_grow}
 use Rattle.def_explore.specs.Rests.{IsMovingAfter, RunQuestion}
-use Rattle.def_explore.specs.Alike.{IsStateAlike, HasStateOf, is_pick_among, AreIndependent, HasFirstPicks}
+use Rattle.def_explore.specs.Alike.{IsStateAlike, HasStateOf, is_pick_among, AreIndependent}
 use Rattle.def_explore.proofs.Alike.{goes_on, alike_then, alike_same}
 use Rattle.def_independence.specs.Laws.{OnePickGoesFirst}
 use Rattle.def_independence.proofs.Numbers.{same_if, other_if}

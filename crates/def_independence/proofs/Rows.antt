@@ -1,10 +1,11 @@
 -- Worked rows, computed: where the conditions hold, and where they don't.
 use Rattle.std.proofs.Common.{◌≡◌, ℕ, List, [], ◌∷◌, ◌++◌, true, false, codes, refl}
-use Rattle.std.specs.Prelude.{None}
+use Rattle.std.specs.Prelude.{Some, None}
 use Rattle.def_term.specs.Tree.{Tree, pid}
 use Rattle.def_term.specs.Names.{Name, word}
 use Rattle.def_spec.specs.Expressions.{constant, perform, enable_trace, disable_trace, trace, message, no_exprs, and_expr}
-use Rattle.def_script.specs.Program.{Step, send, receive, link, unlink, Program}
+use Rattle.def_script.specs.Program.{error, Step, send, receive, catch, link, unlink, raise, Program}
+use Rattle.def_node.specs.Node.{fresh}
 use Rattle.def_session.specs.Settings.{off}
 use Rattle.def_run.specs.Run.{run_state_of}
 use Rattle.def_run.specs.Listing.{messages}
@@ -89,6 +90,23 @@ ends_alone = refl
 -- a call among others, and the return from it
 calls_go_alone : goes_alone_after (talk (call_named "rest" [] ∷ [])) both_called 100 ≡ true
 calls_go_alone = refl
+
+-- a raise that is caught goes on in the frame below; one that isn't caught ends the process
+abbrev raises_one : List Step → Program
+raises_one steps = program (function "go" [] steps ∷ function "boom" [] (raise error (number 1) ∷ []) ∷ []) (entry "go" [] ∷ []) []
+
+caught_goes_alone : goes_alone_after (raises_one (catch None (codes "m") (codes "boom") [] ∷ [])) (100 ∷ 100 ∷ []) 100 ≡ true
+caught_goes_alone = refl
+
+uncaught_ends : goes_alone_after (raises_one (call_named "boom" [] ∷ [])) (100 ∷ 100 ∷ []) 100 ≡ false
+uncaught_ends = refl
+
+-- what is known of the next step tells it: the entry call of a function that is there, and of one that isn't
+entry_alone : goes_alone_by sends.functions (Some 102) (fresh (entry "go" [])) ≡ true
+entry_alone = refl
+
+no_entry_alone : goes_alone_by sends.functions (Some 102) (fresh (entry "nope" [])) ≡ false
+no_entry_alone = refl
 
 -- no specification acts on another process, and 101 doesn't have the flag `receive`
 acts_on_self_alone : sessions_act_on_self asked sends commands ≡ true
