@@ -106,6 +106,7 @@ SUBJECTS = {
     ),
     "bound": (
         bound_cases.bounds,
+        bound_cases.output_files,
         bound_cases.refusals_in_bounds,
         bound_cases.bad_bounds,
         bound_cases.endless_outputs,

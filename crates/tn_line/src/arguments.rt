@@ -209,6 +209,18 @@ pub(crate) fn max_output<'a>(alloc: Global) -> Arg<'a>
         .action(ArgAction::Set)
 }
 
+/// `--output FILE`, `-o FILE`.
+pub(crate) fn output<'a>(alloc: Global) -> Arg<'a>
+    ensures { IsOption (codes "output") result }
+{
+    Arg::new(alloc, "output")
+        .long("output")
+        .short('o')
+        .value_name("FILE")
+        .help("The file that the output goes to, whole or not at all; standard output where it is absent")
+        .action(ArgAction::Set)
+}
+
 /// `--session NAME`. NAME may begin with a hyphen, and may be in quotes as atoms are in scripts.
 pub(crate) fn session<'a>(alloc: Global) -> Arg<'a>
     ensures { IsOption (codes "session") result }

@@ -7,7 +7,7 @@ ghost use Rattle.tn_line.specs.Line.{RUN, REPLAY, EXPLAIN, DRAW, ROUND, WORKERS,
 
 use crate::arguments::{
     caller, control, event, expect, expect_line, expect_session, in_rounds, json, json_alone,
-    limit, list, max_output, move_number, moves, moves_file, node, of_fun, one_of_picks,
+    limit, list, max_output, move_number, moves, moves_file, node, of_fun, one_of_picks, output,
     own_process, picks, picks_file, picks_or_round, quiet, reject_line, script, session, spec_file,
     specification, spread, strict, summary, text, turns, without_picks, worker_count,
 };
@@ -71,8 +71,8 @@ fn with_formats<'a>(alloc: Global, command: Command<'a>) -> Result<Command<'a>, 
         .arg(expect_session(alloc)?)
 }
 
-/// The command with `[--expect FILE] [--expect-line TEXT] [--reject-line TEXT] [--strict] [--max-output BYTES]` more,
-/// which say what its output must be, and its commands.
+/// The command with `[--expect FILE] [--expect-line TEXT] [--reject-line TEXT] [--strict] [--max-output BYTES]
+/// [--output FILE]` more, which say what its output must be, and its commands, and which file the output goes to.
 fn with_expectation<'a>(alloc: Global, command: Command<'a>) -> Result<Command<'a>, AllocError>
     ensures { IfOk result (IsWithExpectation command.entry) }
 {
@@ -81,7 +81,8 @@ fn with_expectation<'a>(alloc: Global, command: Command<'a>) -> Result<Command<'
         .arg(expect_line(alloc))?
         .arg(reject_line(alloc))?
         .arg(strict(alloc))?
-        .arg(max_output(alloc))
+        .arg(max_output(alloc))?
+        .arg(output(alloc))
 }
 
 /// The subcommand `replay [SCRIPT] [--quiet]` with picks or moves, in a format, and with what its output must be.
