@@ -3,13 +3,13 @@ use Rattle.std.proofs.Common.{◌≡◌, ℕ, List, [], ◌∷◌, Some, None, c
 use Prim.Native.String.{String}
 use Rattle.std.specs.Fmt.{digits}
 use Rattle.def_term.specs.Tree.{Tree, pid}
-use Rattle.def_term.specs.Names.{Name, word}
+use Rattle.def_term.specs.Names.{word}
 use Rattle.def_term.specs.Text.{is_written_bare}
 use Rattle.def_spec.specs.Matching.{Pattern, anything, only_term, in_tuple, Patterns, no_patterns, and_pattern}
 use Rattle.def_script.specs.Program.{Program, send}
 use Rattle.def_run.proofs.Samples.{braces, brackets, number, function, entry, program, creates, destroys, sets, lines}
 use Rattle.def_explain.specs.RunTexts.{Filter}
-use Rattle.def_message_choice.specs.MessageChoices.{MessageChoice, sends, sends_none}
+use Rattle.def_message_choice.specs.MessageChoices.{sends, sends_none}
 use Rattle.def_message_choice.specs.ChosenAccounts.{chosen_account_text}
 
 -- ---- words

@@ -13,7 +13,7 @@ use Rattle.def_run.specs.History.{NamedSession, Moment}
 use Rattle.def_explain.specs.Lists.{One}
 use Rattle.def_explain.specs.RunTexts.{is_session}
 use Rattle.def_explore.specs.Words.{is_match}
-use Rattle.def_message_choice.specs.MessageChoices.{MessageChoice, sends, sends_none, plain_message, WouldMatch, ChoosesEvent, Chooses, IsChosenMoment, would_match, chooses_message, chooses_event, chooses, is_chosen_moment}
+use Rattle.def_message_choice.specs.MessageChoices.{MessageChoice, sends, sends_none, flag_message, WouldMatch, ChoosesEvent, Chooses, IsChosenMoment, would_match, chooses_message, chooses_event, chooses, is_chosen_moment}
 use Rattle.def_message_choice.specs.Laws.{ChoiceIsComputed}
 
 -- ---- one of several
@@ -38,16 +38,16 @@ one-is p P each (x ∷ xs) = (here (p x) refl (one-is p P each xs), there (one-i
 -- ---- one event
 
 module _ (a : Pattern) (e : Event) where
-  would : (b d : Bool) → is_match a (plain_message false e) ≡ b → is_match a (plain_message true e) ≡ d → (b || d) ≡ true → WouldMatch a e
+  would : (b d : Bool) → is_match a (flag_message false e) ≡ b → is_match a (flag_message true e) ≡ d → (b || d) ≡ true → WouldMatch a e
   would true d is js h = (false, is)
   would false d is js h = (true, js ∙ h)
 
   would-is : (would_match (sends_none a) e ≡ true) ↔ WouldMatch a e
-  would-is = (would (is_match a (plain_message false e)) (is_match a (plain_message true e)) refl refl, λ h. back h.0 h.1)
+  would-is = (would (is_match a (flag_message false e)) (is_match a (flag_message true e)) refl refl, λ h. back h.0 h.1)
     where
-      back : (short : Bool) → is_match a (plain_message short e) ≡ true → would_match (sends_none a) e ≡ true
-      back false h = ap (λ b. b || is_match a (plain_message true e)) h
-      back true h = ap (λ b. is_match a (plain_message false e) || b) h ∙ or-true (is_match a (plain_message false e))
+      back : (short : Bool) → is_match a (flag_message short e) ≡ true → would_match (sends_none a) e ≡ true
+      back false h = ap (λ b. b || is_match a (flag_message true e)) h
+      back true h = ap (λ b. is_match a (flag_message false e) || b) h ∙ or-true (is_match a (flag_message false e))
 
 -- by what a session sends
 abbrev ChoosesMessage : MessageChoice → Event → Option Tree → Type 0

@@ -1,5 +1,5 @@
 -- A move is chosen by a message of a session exactly where a message of its listing matches: both are projections of the history.
-use Rattle.std.proofs.Common.{◌≡◌, ◌≢◌, inl, inr, ℕ, Bool, true, false, ◌||◌, ◌&&◌, Option, Some, None, List, [], ◌∷◌, ◌++◌, map, refl, sym, ap, ap₂, ◌∙◌, if◌then◌else◌}
+use Rattle.std.proofs.Common.{◌≡◌, ◌≢◌, inl, inr, Bool, true, false, ◌||◌, ◌&&◌, Option, Some, None, List, [], ◌∷◌, ◌++◌, refl, sym, ap, ap₂, ◌∙◌, if◌then◌else◌}
 use Rattle.std.specs.Prelude.{flat_map, option_to_list}
 use Rattle.std.specs.List.{list_any}
 use Rattle.std.specs.Str.{bytes_eq}
@@ -16,7 +16,7 @@ use Rattle.def_run.specs.HistoryLaws.{sessions_by_view}
 use Rattle.def_run.proofs.Histories.{state_by_view, message_by_view, message-at, over-history, history_has_the_listing}
 use Rattle.def_explain.specs.RunLaws.{IsNone, IsOnce}
 use Rattle.def_explore.specs.Words.{is_match}
-use Rattle.def_message_choice.specs.MessageChoices.{sends, would_match, chooses_message, chooses, is_chosen_moment, is_chosen}
+use Rattle.def_message_choice.specs.MessageChoices.{sends, chooses_message, chooses, is_chosen_moment, is_chosen}
 use Rattle.def_message_choice.specs.Laws.{ListingHasTheChosen}
 
 -- ---- one of several

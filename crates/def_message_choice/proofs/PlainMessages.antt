@@ -1,12 +1,9 @@
 -- The message that a session sends of an event by its trace flag alone.
-use Rattle.std.proofs.Common.{◌≡◌, Bool, true, false, Option, Some, None, if◌then◌else◌, [], refl, ap, ◌∙◌}
-use Rattle.def_term.specs.Tree.{Tree}
+use Rattle.std.proofs.Common.{Bool, None, if◌then◌else◌, refl, ap, ◌∙◌}
 use Rattle.def_spec.specs.Flags.{arity_flag}
-use Rattle.def_node.specs.Event.{Event}
 use Rattle.def_session.specs.Messages.{process_of, elements_of, message_by}
 use Rattle.def_session.specs.State.{Session, Phase, flags_at}
-use Rattle.def_session.specs.Session.{inherit, effects_of, reported_for, reported_in, is_silenced, all_affected}
-use Rattle.def_message_choice.specs.MessageChoices.{plain_message}
+use Rattle.def_session.specs.Session.{inherit, reported_for, reported_in}
 use Rattle.def_message_choice.specs.Laws.{PlainMessageHasNoEffects, PlainMessageIsSent, AbsentSendsNone, DestroyedSendsNone}
 
 pub plain_message_has_no_effects : PlainMessageHasNoEffects

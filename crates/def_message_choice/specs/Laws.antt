@@ -15,7 +15,7 @@ use Rattle.def_run.specs.History.{MoveHistory, move_histories}
 use Rattle.def_run.specs.Listing.{messages}
 use Rattle.def_explain.specs.RunLaws.{IsOnce}
 use Rattle.def_explore.specs.Words.{is_match}
-use Rattle.def_message_choice.specs.MessageChoices.{MessageChoice, sends, sends_none, plain_message, Sends, SendsNone, WouldMatch, ChoosesEvent, IsChosen, is_chosen}
+use Rattle.def_message_choice.specs.MessageChoices.{MessageChoice, sends, flag_message, Sends, SendsNone, IsChosen, is_chosen}
 use Rattle.def_message_choice.specs.ChosenAccounts.{chosen_account_text}
 
 -- what is computed is whether a move is chosen
@@ -26,13 +26,13 @@ ChoiceIsComputed = (c : MessageChoice) (n : Option Name) (h : MoveHistory) → (
 
 -- it is the message of an event with no effects
 abbrev pub PlainMessageHasNoEffects : Type 0
-PlainMessageHasNoEffects = (short : Bool) (e : Event) → message_by None (elements_of short e) ≡ Some (plain_message short e)
+PlainMessageHasNoEffects = (short : Bool) (e : Event) → message_by None (elements_of short e) ≡ Some (flag_message short e)
 
 -- a session that is there, traces the event without a specification and isn't silent sends it: with the arity where its flag is set
 abbrev pub PlainMessageIsSent : Type 0
 PlainMessageIsSent =
     (s : Session) (e : Event) → s.phase ≡ live → effects_of (inherit s e) e ≡ Some [] → is_silenced (inherit s e) e ≡ false →
-    Sends s e (plain_message (flags_at (inherit s e) (process_of e) arity_flag) e)
+    Sends s e (flag_message (flags_at (inherit s e) (process_of e) arity_flag) e)
 
 -- a session that isn't there, or was destroyed, sends none
 abbrev pub AbsentSendsNone : Type 0

@@ -21,8 +21,8 @@ pub data MessageChoice : Type 0 where
   sends_none : Pattern → MessageChoice
 
 -- the message of an event by its trace flag alone, with the arguments of a call or with its arity
-abbrev pub plain_message : (short : Bool) → Event → Tree
-plain_message short e = tuple (of_elements (elements_of short e))
+abbrev pub flag_message : (short : Bool) → Event → Tree
+flag_message short e = tuple (of_elements (elements_of short e))
 
 -- ---- what is chosen
 
@@ -36,7 +36,7 @@ SendsNone s e = (event_reported s e).1 ≡ None
 
 -- the message of the event would match, with the arguments or with the arity
 abbrev pub WouldMatch : Pattern → Event → Type 0
-WouldMatch a e = (short : Bool) × (is_match a (plain_message short e) ≡ true)
+WouldMatch a e = (short : Bool) × (is_match a (flag_message short e) ≡ true)
 
 -- the event is chosen by what a session in this state sends of it
 abbrev pub ChoosesEvent : MessageChoice → Session → Event → Type 0
@@ -61,7 +61,7 @@ IsChosen c n h = One (IsChosenMoment c n) h.moments
 -- one of the two messages would match; of what is sent this isn't asked
 abbrev pub would_match : MessageChoice → Event → Bool
 would_match (sends a) e = false
-would_match (sends_none a) e = is_match a (plain_message false e) || is_match a (plain_message true e)
+would_match (sends_none a) e = is_match a (flag_message false e) || is_match a (flag_message true e)
 
 -- by the message that a session sends, and by whether one would match
 abbrev pub chooses_message : MessageChoice → (would : Bool) → Option Tree → Bool

@@ -1,6 +1,6 @@
 -- What the code's sessions that choose moves stand for, and which moves they choose.
 -- Depends on which moves are chosen by a message, and on the code's sessions.
-use Rattle.std.specs.Prelude.{◌≡◌, ℕ, Bool, List, [], ◌∷◌, map, Result, OnOk, IfOk}
+use Rattle.std.specs.Prelude.{◌≡◌, ℕ, Bool, List, map, Result, OnOk, IfOk}
 use Rattle.std.specs.List.{list_any}
 use Rattle.std.specs.declared.alloc.AllocError.{AllocError}
 use Rattle.def_script.specs.Exports.{Exports, visible}
