@@ -50,8 +50,5 @@ pub fn obey<A: Allocator + Copy>(
     requires { ChooseAlikeOver functions.now one.old other.old }
     ensures { OnOk result.0 (OnOk result.1 (ChooseAlikeOver functions.now one.new other.new)) }
 {
-    (
-        one.obey(functions, command),
-        other.obey(functions, command),
-    )
+    (one.obey(functions, command), other.obey(functions, command))
 }
