@@ -29,7 +29,7 @@ _tracenode() {
         case $before in
             --picks | --moves | --after | --limit | --max-states | --n | -n | --turns | --spread | --session | --move | --list | --me | --caller) return ;;
             --expect-session | --expect-line | --reject-line | --max-output) return ;;
-            --shows | --always | --never | --sometimes) return ;;
+            --shows | --always | --never | --sometimes | --message | --why-not) return ;;
             --for)
                 COMPREPLY=($(compgen -W 'call send receive' -- "$word"))
                 return
@@ -66,7 +66,7 @@ _tracenode() {
                 ;;
             explain)
                 words='--picks --picks-file --moves --moves-file --round --limit --control --session --move --node'
-                words+=' --json --expect --expect-line --reject-line --strict --max-output -o --output -h --help'
+                words+=' --message --why-not --json --expect --expect-line --reject-line --strict --max-output -o --output -h --help'
                 ;;
             draw)
                 words='--picks --picks-file --moves --moves-file --round --limit --control --text'

@@ -180,6 +180,13 @@ def command_lines():
         "a flag twice": ["replay", "--picks", "0", "--quiet", "--quiet"],
         "a replay with the flag of explanations": ["replay", "--picks", "0", "--node"],
         "a round with the flag of explanations": ["round", "--node"],
+        "a replay with the message of explanations": ["replay", "--picks", "0", "--message", "'_'"],
+        "a message that is sent and isn't": ["explain", "--picks", "0", "--message", "'_'", "--why-not", "'_'"],
+        "a message and a move": ["explain", "--picks", "0", "--message", "'_'", "--move", "1"],
+        "a message and a node": ["explain", "--picks", "0", "--message", "'_'", "--node"],
+        "a missing message and a move": ["explain", "--picks", "0", "--move", "1", "--why-not", "'_'"],
+        "a missing message and a node": ["explain", "--picks", "0", "--node", "--why-not", "'_'"],
+        "a message without a pattern": ["explain", "--picks", "0", "--message"],
     }
     for name, words in wrong.items():
         ran = run(words, SEND_HI)

@@ -69,6 +69,11 @@ pub record ExcludesPicks (old new : Arg) : Type 0 where
   pub same : new ≡ record old { conflicts = new.conflicts }
   pub excludes : map (λ w. w.now) new.conflicts.items ≡ map (λ w. w.now) old.conflicts.items ++ PICKS
 
+-- the argument is the same, but that it can't be given with these
+pub record Excludes (names : List (List ℕ)) (old new : Arg) : Type 0 where
+  pub same : new ≡ record old { conflicts = new.conflicts }
+  pub excludes : map (λ w. w.now) new.conflicts.items ≡ map (λ w. w.now) old.conflicts.items ++ names
+
 -- the arguments of each command that runs a script by picks
 abbrev pub BY_PICKS : List (List ℕ)
 BY_PICKS = codes "script" ∷ codes "picks" ∷ codes "picks-file" ∷ codes "moves" ∷ codes "moves-file" ∷ []
@@ -107,7 +112,7 @@ REPLAY = codes "script" ∷ codes "picks" ∷ codes "picks-file" ∷ codes "move
 abbrev pub EXPLAIN : List (List ℕ)
 EXPLAIN =
     codes "script" ∷ codes "picks" ∷ codes "picks-file" ∷ codes "moves" ∷ codes "moves-file" ∷ codes "round" ∷ codes "limit" ∷ codes "control"
-    ∷ codes "session" ∷ codes "move" ∷ codes "node" ∷ codes "json" ∷ EXPECTATION
+    ∷ codes "session" ∷ codes "move" ∷ codes "node" ∷ codes "message" ∷ codes "why-not" ∷ codes "json" ∷ EXPECTATION
 
 -- the arguments of `draw`
 abbrev pub DRAW : List (List ℕ)
