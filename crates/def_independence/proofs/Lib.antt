@@ -6,6 +6,7 @@ pub mod Runs
 pub mod Picks
 pub mod Receives
 pub mod NextSteps
+pub mod OwnSteps
 pub mod Evaluations
 pub mod Sessions
 pub mod Events

@@ -131,7 +131,7 @@ module _ (q : RunQuestion) (ss : List Name) (p : Program) (none : have_link p.fu
         kept = λ i. kept_of q ss (λ s. messages_from (exports_of p) (absent_session (exports_of p)) (filter (is_own s) (shown i)));
       }
 
-  silent_apart : IsApartFromEach q ss p (suc n) (ReadyAfter p none n big [])
+  pub silent_apart : IsApartFromEach q ss p (suc n) (ReadyAfter p none n big [])
   silent_apart = record {
     moving = λ j r few. ready_moves p none n big [] j r few;
     kept = λ j o r other few. ready_kept p none n big [] j o r other few;

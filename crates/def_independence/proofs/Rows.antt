@@ -12,7 +12,7 @@ use Rattle.def_run.specs.Listing.{messages}
 use Rattle.def_run.proofs.Samples.{number, braces, brackets, function, entry, program, call_named, creates, sets, mfa_of, sets_function}
 use Rattle.def_explore.specs.Rests.{all_messages, by_process}
 use Rattle.def_explore.specs.Alike.{AreIndependent}
-use Rattle.def_independence.specs.Alone.{have_link, takes_message_after, goes_alone_after, goes_alone_by}
+use Rattle.def_independence.specs.Alone.{have_link, have_unlink, takes_message_after, goes_alone_after, shows_own_steps_after, goes_alone_by}
 use Rattle.def_independence.specs.OwnEffects.{acts_on_self, setting_acts_on_self, sessions_act_on_self, sessions_show_no_receive, none_is_to_one, sessions_show_nothing}
 use Rattle.def_independence.proofs.Receives.{receives_independent}
 use Rattle.def_independence.proofs.Calls.{calls_independent, unseen_independent}
@@ -100,6 +100,28 @@ caught_goes_alone = refl
 
 uncaught_ends : goes_alone_after (raises_one (call_named "boom" [] ∷ [])) (100 ∷ 100 ∷ []) 100 ≡ false
 uncaught_ends = refl
+
+-- its events tell it, where no function makes or removes a link: an unlink of the process itself shows nothing
+shows_own_call : shows_own_steps_after sends commands 101 ≡ true
+shows_own_call = refl
+
+shows_a_wait : shows_own_steps_after sends both_called 101 ≡ false
+shows_a_wait = refl
+
+shows_a_send : shows_own_steps_after sends both_called 100 ≡ false
+shows_a_send = refl
+
+shows_an_exit : shows_own_steps_after sends sent_one 100 ≡ false
+shows_an_exit = refl
+
+unlinks_itself : shows_own_steps_after (talk (unlink (pid 100) ∷ [])) both_called 100 ≡ true
+unlinks_itself = refl
+
+an_unlink_is_there : have_unlink (talk (unlink (pid 100) ∷ [])).functions ≡ true
+an_unlink_is_there = refl
+
+no_unlink_is_there : have_unlink sends.functions ≡ false
+no_unlink_is_there = refl
 
 -- what is known of the next step tells it: the entry call of a function that is there, and of one that isn't
 entry_alone : goes_alone_by sends.functions (Some 102) (fresh (entry "go" [])) ≡ true

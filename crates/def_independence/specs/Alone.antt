@@ -1,11 +1,12 @@
 -- Moves that change one process alone (own).
 -- Depends on the node, on what is known of a next step, and on runs.
-use Rattle.std.specs.Prelude.{ℕ, nat_le, Bool, true, false, not, ◌&&◌, List, Option, Some, None, is_none, is_some}
+use Rattle.std.specs.Prelude.{ℕ, nat_le, Bool, true, false, not, ◌&&◌, List, [], ◌∷◌, Option, Some, None, is_none, is_some}
 use Rattle.std.specs.List.{list_any}
 use Rattle.def_term.specs.Tree.{Tree}
-use Rattle.def_script.specs.Program.{Step, receive, call_remote, call_local, catch, link, give_back, raise, Function, Program}
+use Rattle.def_script.specs.Program.{Step, receive, call_remote, call_local, catch, link, unlink, give_back, raise, Function, Program}
+use Rattle.def_node.specs.Event.{Event, called, returned, raised}
 use Rattle.def_node.specs.Process.{Process, Act, continues, act}
-use Rattle.def_node.specs.Node.{World, next_pid}
+use Rattle.def_node.specs.Node.{World, next_pid, Move, moved, idle, next_of}
 use Rattle.def_outlook.specs.Outlook.{has_no_message, Upcoming, takes_signal, makes_entry, has_no_step, makes_step, upcoming, runtime_error, catch_depth, process_with}
 use Rattle.def_run.specs.Run.{run_state_of}
 
@@ -23,6 +24,19 @@ has_link k = list_any is_link k.steps
 -- one of these functions has one
 abbrev pub have_link : List Function → Bool
 have_link ks = list_any has_link ks
+
+-- the step removes one
+abbrev pub is_unlink : Step → Bool
+is_unlink (unlink other) = true
+is_unlink s = false
+
+-- the function has such a step
+abbrev pub has_unlink : Function → Bool
+has_unlink k = list_any is_unlink k.steps
+
+-- one of these functions has one
+abbrev pub have_unlink : List Function → Bool
+have_unlink ks = list_any has_unlink ks
 
 -- ---- a receive that takes a message
 
@@ -64,6 +78,39 @@ one_goes_alone ks w n (Some q) = is_alone (act ks n (next_pid w) q)
 -- after these picks the process with this pid is alive, and its next step is its entry call, a call, a return to a frame, an exception that is caught, or a receive that takes a message
 abbrev pub goes_alone_after : Program → List ℕ → ℕ → Bool
 goes_alone_after p picks n = let w : World = (run_state_of p picks).world in one_goes_alone p.functions w n (process_with w n)
+
+-- ---- the same by the events of the move
+
+-- the event is a call, a return or an exception
+abbrev pub is_own_step : Event → Bool
+is_own_step (called n c) = true
+is_own_step (returned n m t depth) = true
+is_own_step (raised n m c t depth) = true
+is_own_step e = false
+
+-- each of these is
+abbrev pub are_own_steps : List Event → Bool
+are_own_steps [] = true
+are_own_steps (e ∷ es) = is_own_step e && are_own_steps es
+
+-- the process moves, and shows such events alone, or none
+abbrev pub shows_own_steps : Move → Bool
+shows_own_steps (moved w es) = are_own_steps es
+shows_own_steps (idle w) = false
+
+-- after these picks the process with this pid does
+abbrev pub shows_own_steps_after : Program → List ℕ → ℕ → Bool
+shows_own_steps_after p picks n = shows_own_steps (next_of p.functions (run_state_of p picks).world n)
+
+-- the process moves, and shows no event
+abbrev pub shows_nothing : Move → Bool
+shows_nothing (moved w []) = true
+shows_nothing (moved w (e ∷ es)) = false
+shows_nothing (idle w) = false
+
+-- after these picks the process with this pid does
+abbrev pub shows_nothing_after : Program → List ℕ → ℕ → Bool
+shows_nothing_after p picks n = shows_nothing (next_of p.functions (run_state_of p picks).world n)
 
 -- ---- the same by what is known of the next step
 

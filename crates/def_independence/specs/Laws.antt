@@ -7,7 +7,7 @@ use Rattle.def_node.specs.Process.{Process, act}
 use Rattle.def_node.specs.Limits.{IsEntered}
 use Rattle.def_explore.specs.Rests.{RunQuestion, by_process}
 use Rattle.def_explore.specs.Alike.{HasStateOf, AreIndependent, HasFirstPicks}
-use Rattle.def_independence.specs.Alone.{have_link, takes_message, takes_message_after, is_alone, goes_alone_by}
+use Rattle.def_independence.specs.Alone.{have_link, have_unlink, takes_message, takes_message_after, is_alone, goes_alone_after, shows_own_steps_after, shows_nothing_after, goes_alone_by}
 use Rattle.def_independence.specs.OwnEffects.{sessions_show_nothing}
 use Rattle.def_independence.specs.Conditions.{IsMoveAlone}
 
@@ -35,6 +35,20 @@ abbrev pub OnePickGoesFirst : Type 0
 OnePickGoesFirst =
     (q : RunQuestion) (ss : List Name) (p : Program) (js : List (List ℕ)) (j : List ℕ) (t : ℕ) →
     AreIndependent q ss p j (t ∷ []) → HasStateOf q ss p js (j ++ t ∷ []) → HasFirstPicks q ss p js j
+
+-- ---- what a move shows
+
+-- where no function makes or removes a link, a move that shows calls, returns and exceptions alone, or nothing, changes its process alone
+abbrev pub OwnStepsGoAlone : Type 0
+OwnStepsGoAlone =
+    (p : Program) (picks : List ℕ) (n : ℕ) → have_link p.functions ≡ false → have_unlink p.functions ≡ false →
+    shows_own_steps_after p picks n ≡ true → goes_alone_after p picks n ≡ true
+
+-- and one that shows nothing is independent of all other picks, whatever is asked
+abbrev pub SilentMovesAreIndependent : Type 0
+SilentMovesAreIndependent =
+    (q : RunQuestion) (ss : List Name) (p : Program) (j : List ℕ) (t : ℕ) →
+    have_link p.functions ≡ false → have_unlink p.functions ≡ false → shows_nothing_after p j t ≡ true → AreIndependent q ss p j (t ∷ [])
 
 -- ---- what is known of the next step
 

@@ -7,6 +7,7 @@
 ghost use Rattle.def_independence.specs.Laws.{ReceivesAreIndependent, CallsAreIndependentByProcess};
 ghost use Rattle.def_independence.specs.Laws.{MovesWithoutMessagesAreIndependent, OnePickGoesFirst};
 ghost use Rattle.def_independence.specs.Laws.{ReceivesGoAlone, AloneIsOfTheStep};
+ghost use Rattle.def_independence.specs.Laws.{OwnStepsGoAlone, SilentMovesAreIndependent};
 
 /// A receive that takes a message is independent of all other picks.
 pub fn receives_are_independent()
@@ -34,4 +35,16 @@ pub fn one_pick_goes_first()
 pub fn a_step_tells_whether_it_is_alone()
     ensures receives { ReceivesGoAlone }
     ensures steps { AloneIsOfTheStep }
+{}
+
+/// Where no function makes or removes a link, a move that shows calls, returns and exceptions alone, or nothing, changes
+/// its process alone.
+pub fn own_steps_go_alone()
+    ensures { OwnStepsGoAlone }
+{}
+
+/// Where no function makes or removes a link, a move that shows nothing is independent of all other picks, whatever is
+/// asked.
+pub fn silent_moves_are_independent()
+    ensures { SilentMovesAreIndependent }
 {}
