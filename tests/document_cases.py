@@ -22,7 +22,7 @@ from harness import SECONDS, START, TOP, check, run
 # The options of ./tracenode, which are not the program's.
 STARTS = {"--prove", "--install", "--release"}
 
-COMMANDS = (("run",), ("replay",), ("round",), ("workers",), ("explain",), ("draw",), ("spec",), ("fun",), ("explore",), ("compare",), ("serve",))
+COMMANDS = (("run",), ("replay",), ("round",), ("workers",), ("explain",), ("state",), ("draw",), ("spec",), ("fun",), ("explore",), ("compare",), ("serve",))
 
 
 def documents():

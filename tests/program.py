@@ -31,6 +31,7 @@ import mistake_cases
 import run_cases
 import serve_cases
 import specification_cases
+import state_cases
 import text_cases
 
 SUBJECTS = {
@@ -58,6 +59,7 @@ SUBJECTS = {
         text_cases.numbers_in_terms,
     ),
     "explanation": (explanation_cases.explanations, explanation_cases.limits, explanation_cases.differences),
+    "state": (state_cases.states, state_cases.state_ends),
     "picture": (picture_cases.pictures, picture_cases.drawings, picture_cases.life_lines, picture_cases.columns),
     "mistake": (mistake_cases.mistakes,),
     "specification": (

@@ -1,0 +1,5 @@
+mod Texts
+mod OwnCommands
+mod ProcessLemmas
+mod FoundLemmas
+mod SessionLemmas

@@ -1,0 +1,11 @@
+use Rattle.std.proofs.Common.{◌∙◌, refl, sym}
+use Rattle.tn_state.proofs.OwnCommands.{creation_here, creation_later, no_creation}
+use Rattle.tn_state.proofs.commands.since_creation.Goals as goal
+
+pub loop-place-init : goal.loop-place-init
+loop-place-init g c = refl
+
+pub loop-place-preserved : goal.loop-place-preserved
+loop-place-preserved g c =
+    let l = c.loop-place in
+    sym (creation_later c.args.name.now c.args.commands.now l.place c.index-commands-place.result c.loop-place-test.true c.index-commands-place.is (sym c.creates.ensures ∙ c.if-creates.false)) ∙ l.invariant

@@ -1,0 +1,90 @@
+-- What the newest accepted commands set, as the code sees it.
+use Rattle.std.specs.Prelude.{Bool, true, false, if◌then◌else◌, List, [], ◌∷◌, ℕ, Option, Some, None, Ok, Err}
+use Rattle.std.specs.Option.{option_map}
+use Rattle.def_term.specs.Names.{Name, Mfa, word}
+use Rattle.def_term.specs.Tree.{Tree, list, none}
+use Rattle.def_script.specs.Program.{Command, mfa_of}
+use Rattle.def_spec.specs.Reading.{Reads}
+use Rattle.def_session.specs.Settings as settings
+use Rattle.def_state.specs.Lines.{line_text, pair}
+use Rattle.def_state.specs.SettingTerms.{SettingTerm, FunctionTerm, or_else, send_term_of, receive_term_of, function_term_to}
+use Rattle.def_state.specs.SessionTexts.{kind_term, match_spec_term, pattern_line}
+use Rattle.tn_term.specs.Views.{mfa_seen, tree_of}
+use Rattle.tn_script.specs.Views.{function_of}
+use Rattle.tn_script.specs.declared.form.Function.{Function}
+use Rattle.tn_state.specs.Commands.{is_command_to}
+use Rattle.tn_state.specs.declared.settings.Found.{Found}
+use Rattle.tn_state.specs.declared.settings.Kind.{Kind}
+use Rattle.tn_state.specs.declared.settings.Kind.TheVariants.{Off, Plain, Spec}
+use Rattle.tn_state.specs.declared.settings.Subject as subjects
+use Rattle.tn_state.specs.declared.settings.Subject.{Subject}
+
+-- whether it is local, the kind and the term of what a command sets
+abbrev pub FoundValue : Type 0
+FoundValue = Bool × Kind × Tree
+
+abbrev pub found_seen : {A : Type 0} → Found A → FoundValue
+found_seen f = (f.local, f.kind, tree_of f.term.now)
+
+abbrev pub kind_in : settings.Setting → Kind
+kind_in settings.off = Off
+kind_in settings.plain = Plain
+kind_in (settings.by s) = Spec
+
+-- that of what is read; none where it is refused
+abbrev pub kind_read : Reads settings.Setting → Option Kind
+kind_read (Ok s) = Some (kind_in s)
+kind_read (Err e) = None
+
+-- with its term
+abbrev pub setting_found : Bool → Tree → Reads settings.Setting → Option FoundValue
+setting_found local t (Ok s) = Some (local, kind_in s, t)
+setting_found local t (Err e) = None
+
+abbrev pub setting_value : SettingTerm → FoundValue
+setting_value g = (false, kind_in g.0, g.1)
+
+abbrev pub function_value : FunctionTerm → FoundValue
+function_value g = (g.0.local, kind_in g.0.setting, g.1)
+
+-- what a command sets for a function
+abbrev pub function_found : Mfa → Bool → Command → Option FoundValue
+function_found f exported c = option_map function_value (function_term_to f exported c)
+
+-- what a command sets of a subject
+abbrev pub subject_found : {A : Type 0} → Subject A → Command → Option FoundValue
+subject_found subjects.TheVariants.Sends c = option_map setting_value (send_term_of c)
+subject_found subjects.TheVariants.Receives c = option_map setting_value (receive_term_of c)
+subject_found (subjects.TheVariants.Function mfa exported) c = function_found (mfa_seen mfa.now) exported c
+
+-- what a command, where it is to the session of this name, and those before it set of a subject
+abbrev pub found_after : {A : Type 0} → Name → Subject A → Command → Option FoundValue → Option FoundValue
+found_after name subject c before = if is_command_to name c then or_else (subject_found subject c) before else before
+
+-- {traced,local} or {traced,global}
+abbrev pub traced_term : Bool → Tree
+traced_term local = pair (word "traced") (kind_term local)
+
+-- the line of a function, by the kind of its setting
+abbrev pub text_of_kind : Mfa → Bool → Kind → Tree → List ℕ
+text_of_kind f local Off t = []
+text_of_kind f local Plain t = line_text (pattern_line f local (list none))
+text_of_kind f local Spec t = line_text (pattern_line f local t)
+
+abbrev pub text_of_function : Mfa → Option FoundValue → List ℕ
+text_of_function f None = []
+text_of_function f (Some g) = text_of_kind f g.0 g.1 g.2
+
+-- the line of sends or of receives
+abbrev pub text_of_setting_kind : Tree → Kind → Tree → List ℕ
+text_of_setting_kind name Off t = line_text (name ∷ match_spec_term (word "false") ∷ [])
+text_of_setting_kind name Plain t = []
+text_of_setting_kind name Spec t = line_text (name ∷ match_spec_term t ∷ [])
+
+abbrev pub text_of_setting : Tree → Option FoundValue → List ℕ
+text_of_setting name None = []
+text_of_setting name (Some g) = text_of_setting_kind name g.1 g.2
+
+-- a function, with whether it is exported
+abbrev pub visible_function : {A : Type 0} → Function A → Mfa × Bool
+visible_function k = (mfa_of (function_of k), k.exported)
