@@ -84,7 +84,7 @@ impl<A: Allocator> Binding<A> {
     pub fn name(&self) -> &Atom<A>
         ensures { result.now ≡ (name_and_term self.now).0 }
     {
-        &self.name
+        &*self.name
     }
 
     /// Its value.

@@ -1,18 +1,20 @@
 -- The newest of the commands to a session, one after the other; and its text.
-use Rattle.std.proofs.Common.{◌≡◌, ◌∙◌, ℕ, ◌+◌, ◌<◌, ◌≤◌, Bool, true, false, if◌then◌else◌, List, [], ◌∷◌, ◌++◌, length, drop, get_or, map, Option, Some, None, refl, sym, ap}
+use Rattle.std.proofs.Common.{◌≡◌, ◌∙◌, ℕ, ◌+◌, ◌<◌, ◌≤◌, Bool, true, false, ◌&&◌, ◌||◌, if◌then◌else◌, List, [], ◌∷◌, length, drop, get_or, map, Option, Some, None, Ok, Err, refl, sym, ap}
 use Rattle.std.specs.Prelude.{filter}
 use Rattle.std.specs.Option.{option_map}
 use Rattle.std.proofs.lemmas.List.{drop_more, drop_all}
 use Rattle.def_term.specs.Names.{Name, Mfa}
 use Rattle.def_term.specs.Tree.{Tree}
 use Rattle.def_script.specs.Program as program
-use Rattle.def_session.specs.Settings.{Setting, off, plain, by}
-use Rattle.def_state.specs.SettingTerms.{SettingTerm, FunctionTerm, or_else, newest_from, newest, send_term_of, receive_term_of, function_term_to}
+use Rattle.def_spec.specs.Expressions.{for_calls, for_sends, for_receives}
+use Rattle.def_spec.specs.Reading.{Reads}
+use Rattle.def_session.specs.Settings.{FunctionPattern, Setting, off, plain, by, setting_of, trace_pattern_of, options_of, is_covered}
+use Rattle.def_state.specs.SettingTerms.{SettingTerm, FunctionTerm, or_else, newest_from, newest, setting_term_by, send_term_of, receive_term_of, function_term_for, function_term_by, term_among, function_term_to}
 use Rattle.def_state.specs.SessionTexts.{function_text_by, function_text_of, function_text, setting_text_by, setting_text}
 use Rattle.tn_flags.specs.Views.{command_of}
 use Rattle.tn_flags.specs.declared.command.Command.{Command}
 use Rattle.tn_state.specs.Commands.{is_command_to, own_commands}
-use Rattle.tn_state.specs.Found.{FoundValue, kind_in, setting_value, function_value, function_found, subject_found, found_after, text_of_kind, text_of_function, text_of_setting_kind, text_of_setting}
+use Rattle.tn_state.specs.Found.{FoundValue, kind_in, setting_found, send_found, receive_found, function_found_by, function_found, subject_found, found_after, text_of_kind, text_of_function, text_of_setting_kind, text_of_setting}
 use Rattle.tn_state.specs.declared.settings.Subject.{Subject}
 
 -- ---- a loop over commands
@@ -39,18 +41,77 @@ module _ {A B : Type 0} (subject : Subject A) (name : Name) (cs : List (Command 
   pub newest_all : (x : Option FoundValue) {z : Option FoundValue} → length cs ≤ i → newest_from (subject_found subject) x (own_commands name (drop i cs)) ≡ z → x ≡ z
   newest_all x past so_far = sym (ap (λ ks. newest_from (subject_found subject) x (own_commands name ks)) (drop_all i cs past)) ∙ so_far
 
+-- ---- what is found is what the command gives
+
+abbrev setting_value : SettingTerm → FoundValue
+setting_value g = (false, kind_in g.0, g.1)
+
+abbrev function_value : FunctionTerm → FoundValue
+function_value g = (g.0.local, kind_in g.0.setting, g.1)
+
+setting_given : (t : Tree) (r : Reads Setting) → setting_found false t r ≡ option_map setting_value (setting_term_by t r)
+setting_given t (Ok s) = refl
+setting_given t (Err e) = refl
+
+send_given : (c : program.Command) → send_found c ≡ option_map setting_value (send_term_of c)
+send_given (program.set_send name spec) = setting_given spec (setting_of for_sends spec)
+send_given (program.create name tracer) = refl
+send_given (program.destroy name) = refl
+send_given (program.set_processes name procs how flags) = refl
+send_given (program.set_function name mfa spec options) = refl
+send_given (program.set_receive name spec) = refl
+
+receive_given : (c : program.Command) → receive_found c ≡ option_map setting_value (receive_term_of c)
+receive_given (program.set_receive name spec) = setting_given spec (setting_of for_receives spec)
+receive_given (program.create name tracer) = refl
+receive_given (program.destroy name) = refl
+receive_given (program.set_processes name procs how flags) = refl
+receive_given (program.set_function name mfa spec options) = refl
+receive_given (program.set_send name spec) = refl
+
+-- what a function command sets, where it has the function among its own
+abbrev chosen : FunctionPattern → Bool → Tree → Reads Setting → Bool → Option FunctionTerm
+chosen p local t (Err e) b = None
+chosen p local t (Ok s) b = if b then Some (record { covered = p; setting = s; local = local }, t) else None
+
+module _ (f : Mfa) (exported : Bool) where
+  covered_given : (p : FunctionPattern) (local : Bool) (t : Tree) (r : Reads Setting) (b : Bool)
+      → (if b then setting_found local t r else None) ≡ option_map function_value (chosen p local t r b)
+  covered_given p local t (Ok s) true = refl
+  covered_given p local t (Ok s) false = refl
+  covered_given p local t (Err e) true = refl
+  covered_given p local t (Err e) false = refl
+
+  among : (p : FunctionPattern) (local : Bool) (t : Tree) (r : Reads Setting) → chosen p local t r (is_covered p f && (local || exported)) ≡ term_among f exported (function_term_for p local (setting_term_by t r))
+  among p local t (Ok s) = refl
+  among p local t (Err e) = refl
+
+  function_given_by : (p : Option FunctionPattern) (local : Option Bool) (t : Tree) → function_found_by f exported p local t ≡ option_map function_value (term_among f exported (function_term_by p local t))
+  function_given_by None local t = refl
+  function_given_by (Some p) None t = refl
+  function_given_by (Some p) (Some local) t =
+      covered_given p local t (setting_of for_calls t) (is_covered p f && (local || exported)) ∙ ap (option_map function_value) (among p local t (setting_of for_calls t))
+
+  function_given : (c : program.Command) → function_found f exported c ≡ option_map function_value (function_term_to f exported c)
+  function_given (program.set_function name mfa spec options) = function_given_by (trace_pattern_of mfa) (options_of options) spec
+  function_given (program.create name tracer) = refl
+  function_given (program.destroy name) = refl
+  function_given (program.set_processes name procs how flags) = refl
+  function_given (program.set_send name spec) = refl
+  function_given (program.set_receive name spec) = refl
+
 -- ---- what is found of the newest
 
-module _ {X Y : Type 0} (h : X → Y) (f : program.Command → Option X) where
-  later_found : (x y : Option X) → or_else (option_map h x) (option_map h y) ≡ option_map h (or_else x y)
-  later_found (Some x) y = refl
-  later_found None y = refl
+later_found : {X Y : Type 0} (h : X → Y) (x y : Option X) → or_else (option_map h x) (option_map h y) ≡ option_map h (or_else x y)
+later_found h (Some x) y = refl
+later_found h None y = refl
 
-  newest_found_from : (x : Option X) (cs : List program.Command) → newest_from (λ c. option_map h (f c)) (option_map h x) cs ≡ option_map h (newest_from f x cs)
+module _ {X Y : Type 0} (h : X → Y) (f : program.Command → Option X) (g : program.Command → Option Y) (same : (c : program.Command) → g c ≡ option_map h (f c)) where
+  newest_found_from : (x : Option X) (cs : List program.Command) → newest_from g (option_map h x) cs ≡ option_map h (newest_from f x cs)
   newest_found_from x [] = refl
-  newest_found_from x (c ∷ cs) = ap (λ v. newest_from (λ c. option_map h (f c)) v cs) (later_found (f c) x) ∙ newest_found_from (or_else (f c) x) cs
+  newest_found_from x (c ∷ cs) = ap (λ v. newest_from g (or_else v (option_map h x)) cs) (same c) ∙ ap (λ v. newest_from g v cs) (later_found h (f c) x) ∙ newest_found_from (or_else (f c) x) cs
 
-  pub newest_found : (cs : List program.Command) → newest (λ c. option_map h (f c)) cs ≡ option_map h (newest f cs)
+  newest_found : (cs : List program.Command) → newest g cs ≡ option_map h (newest f cs)
   newest_found cs = newest_found_from None cs
 
 -- ---- its text
@@ -65,7 +126,8 @@ of_function f None = refl
 of_function f (Some g) = kind_text f g.0.local g.0.setting g.1
 
 pub function_written : (cs : List program.Command) (f : Mfa) (exported : Bool) → text_of_function f (newest (function_found f exported) cs) ≡ function_text cs (f, exported)
-function_written cs f exported = ap (text_of_function f) (newest_found function_value (function_term_to f exported) cs) ∙ of_function f (newest (function_term_to f exported) cs)
+function_written cs f exported =
+    ap (text_of_function f) (newest_found function_value (function_term_to f exported) (function_found f exported) (function_given f exported) cs) ∙ of_function f (newest (function_term_to f exported) cs)
 
 setting_kind_text : (name : Tree) (s : Setting) (t : Tree) → text_of_setting_kind name (kind_in s) t ≡ setting_text_by name s t
 setting_kind_text name off t = refl
@@ -76,5 +138,8 @@ of_setting : (name : Tree) (g : Option SettingTerm) → text_of_setting name (op
 of_setting name None = refl
 of_setting name (Some g) = setting_kind_text name g.0 g.1
 
-pub setting_written : (name : Tree) (f : program.Command → Option SettingTerm) (cs : List program.Command) → text_of_setting name (newest (λ c. option_map setting_value (f c)) cs) ≡ setting_text name (newest f cs)
-setting_written name f cs = ap (text_of_setting name) (newest_found setting_value f cs) ∙ of_setting name (newest f cs)
+pub sends_written : (name : Tree) (cs : List program.Command) → text_of_setting name (newest send_found cs) ≡ setting_text name (newest send_term_of cs)
+sends_written name cs = ap (text_of_setting name) (newest_found setting_value send_term_of send_found send_given cs) ∙ of_setting name (newest send_term_of cs)
+
+pub receives_written : (name : Tree) (cs : List program.Command) → text_of_setting name (newest receive_found cs) ≡ setting_text name (newest receive_term_of cs)
+receives_written name cs = ap (text_of_setting name) (newest_found setting_value receive_term_of receive_found receive_given cs) ∙ of_setting name (newest receive_term_of cs)

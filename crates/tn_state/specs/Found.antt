@@ -1,13 +1,14 @@
 -- What the newest accepted commands set, as the code sees it.
-use Rattle.std.specs.Prelude.{Bool, true, false, if◌then◌else◌, List, [], ◌∷◌, ℕ, Option, Some, None, Ok, Err}
+use Rattle.std.specs.Prelude.{Bool, false, ◌&&◌, ◌||◌, if◌then◌else◌, List, [], ◌∷◌, ℕ, Option, Some, None, Ok, Err}
 use Rattle.std.specs.Option.{option_map}
 use Rattle.def_term.specs.Names.{Name, Mfa, word}
 use Rattle.def_term.specs.Tree.{Tree, list, none}
-use Rattle.def_script.specs.Program.{Command, mfa_of}
+use Rattle.def_script.specs.Program.{Command, set_function, set_send, set_receive, mfa_of}
+use Rattle.def_spec.specs.Expressions.{for_calls, for_sends, for_receives}
 use Rattle.def_spec.specs.Reading.{Reads}
 use Rattle.def_session.specs.Settings as settings
 use Rattle.def_state.specs.Lines.{line_text, pair}
-use Rattle.def_state.specs.SettingTerms.{SettingTerm, FunctionTerm, or_else, send_term_of, receive_term_of, function_term_to}
+use Rattle.def_state.specs.SettingTerms.{or_else}
 use Rattle.def_state.specs.SessionTexts.{kind_term, match_spec_term, pattern_line}
 use Rattle.tn_term.specs.Views.{mfa_seen, tree_of}
 use Rattle.tn_script.specs.Views.{function_of}
@@ -38,23 +39,32 @@ kind_read (Err e) = None
 
 -- with its term
 abbrev pub setting_found : Bool → Tree → Reads settings.Setting → Option FoundValue
-setting_found local t (Ok s) = Some (local, kind_in s, t)
-setting_found local t (Err e) = None
+setting_found local t r = option_map (λ k. (local, k, t)) (kind_read r)
 
-abbrev pub setting_value : SettingTerm → FoundValue
-setting_value g = (false, kind_in g.0, g.1)
+-- what a send command sets
+abbrev pub send_found : Command → Option FoundValue
+send_found (set_send name spec) = setting_found false spec (settings.setting_of for_sends spec)
+send_found c = None
 
-abbrev pub function_value : FunctionTerm → FoundValue
-function_value g = (g.0.local, kind_in g.0.setting, g.1)
+-- what a receive command sets
+abbrev pub receive_found : Command → Option FoundValue
+receive_found (set_receive name spec) = setting_found false spec (settings.setting_of for_receives spec)
+receive_found c = None
 
--- what a command sets for a function
+-- what a function command sets for a function that it has among its own
+abbrev pub function_found_by : Mfa → Bool → Option settings.FunctionPattern → Option Bool → Tree → Option FoundValue
+function_found_by f exported (Some covered) (Some local) spec =
+    if settings.is_covered covered f && (local || exported) then setting_found local spec (settings.setting_of for_calls spec) else None
+function_found_by f exported _ _ spec = None
+
 abbrev pub function_found : Mfa → Bool → Command → Option FoundValue
-function_found f exported c = option_map function_value (function_term_to f exported c)
+function_found f exported (set_function name mfa spec options) = function_found_by f exported (settings.trace_pattern_of mfa) (settings.options_of options) spec
+function_found f exported c = None
 
 -- what a command sets of a subject
 abbrev pub subject_found : {A : Type 0} → Subject A → Command → Option FoundValue
-subject_found subjects.TheVariants.Sends c = option_map setting_value (send_term_of c)
-subject_found subjects.TheVariants.Receives c = option_map setting_value (receive_term_of c)
+subject_found subjects.TheVariants.Sends c = send_found c
+subject_found subjects.TheVariants.Receives c = receive_found c
 subject_found (subjects.TheVariants.Function mfa exported) c = function_found (mfa_seen mfa.now) exported c
 
 -- what a command, where it is to the session of this name, and those before it set of a subject

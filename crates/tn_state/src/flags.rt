@@ -43,9 +43,19 @@ fn flag_names<A: Allocator + Copy>(alloc: A, flags: Flags) -> Result<Vec<Term<A>
     push_flag(alloc, "silent", flags.silent, &mut names)?;
     push_flag(alloc, "arity", flags.arity, &mut names)?;
     push_flag(alloc, "set_on_spawn", flags.set_on_spawn, &mut names)?;
-    push_flag(alloc, "set_on_first_spawn", flags.set_on_first_spawn, &mut names)?;
+    push_flag(
+        alloc,
+        "set_on_first_spawn",
+        flags.set_on_first_spawn,
+        &mut names,
+    )?;
     push_flag(alloc, "set_on_link", flags.set_on_link, &mut names)?;
-    push_flag(alloc, "set_on_first_link", flags.set_on_first_link, &mut names)?;
+    push_flag(
+        alloc,
+        "set_on_first_link",
+        flags.set_on_first_link,
+        &mut names,
+    )?;
     Ok(names)
 }
 
@@ -64,7 +74,8 @@ fn put_flags<A: Allocator + Copy>(
         return Ok(());
     }
     let mut others = Vec::new(alloc);
-    others.push(pair(alloc, "flags", Term::List(names))?)?;
+    let flags = pair(alloc, "flags", Term::List(names))?;
+    others.push(flags)?;
     put_line(owner, &others, out)
 }
 
@@ -78,7 +89,8 @@ fn put_flags_at<A: Allocator + Copy>(
     ensures { OnOk result (out.new.items ≡ out.old.items ++ flags_text_at (look_seen look.now) pid) }
 {
     if look.alive().has(pid) {
-        put_flags(alloc, &Term::Pid(pid), look.flags_at(pid), out)
+        let owner = Term::Pid(pid);
+        put_flags(alloc, &owner, look.flags_at(pid), out)
     } else {
         Ok(())
     }

@@ -1,4 +1,4 @@
-// A run that is explained.
+// The state of a run that is asked for.
 ghost use Rattle.std.specs.Prelude.{IfOk};
 ghost use Rattle.tn_program.specs.Views.{program_of};
 ghost use Rattle.tn_moves.specs.Schedules.{IsSpelledBy, schedule_seen};
@@ -83,9 +83,9 @@ impl<A: Allocator + Copy> DirectJob<A> for StateRequest<'_> {
     }
 }
 
-/// Explains the run of the script that the reader holds: writes what each of its moves showed and what each
-/// session made of it, or the line of the refusal, or nothing where the moves are refused, or the session or the move
-/// that is asked for isn't there, as `tn_run::transact` says. Bad picks are found before anything is read.
+/// Shows a state of the run of the script that the reader holds: writes the state after the move that is asked for, or
+/// the line of the refusal, or nothing where the moves are refused, or the session or the move that is asked for isn't
+/// there, as `tn_run::transact` says. Bad picks are found before anything is read.
 pub fn show_state<A: Allocator + Copy, R: Read, W: Write>(
     alloc: A,
     reader: &mut Watched<R>,

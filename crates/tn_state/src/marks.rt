@@ -38,7 +38,8 @@ fn put_mark<A: Allocator + Copy>(
     let mut others = Vec::new(alloc);
     others.push(frame_term(alloc, depth)?)?;
     others.push(mark_term(alloc, kind)?)?;
-    put_line(&Term::Pid(pid), &others, out)
+    let owner = Term::Pid(pid);
+    put_line(&owner, &others, out)
 }
 
 /// Appends the marks of a process.

@@ -247,7 +247,8 @@ fn put_header<A: Allocator + Copy>(
     ensures { OnOk result (out.new.items ≡ out.old.items ++ process_header pid (map tree_of others.now)) }
 {
     out.extend_from_slice(b"== process ")?;
-    put_line(&Term::Pid(pid), others, out)
+    let owner = Term::Pid(pid);
+    put_line(&owner, others, out)
 }
 
 /// Appends the text of a process that was started with this pid.
@@ -264,7 +265,8 @@ fn put_process<A: Allocator + Copy>(
 {
     match slot {
         None => {
-            put_header(pid, &Vec::new(alloc), out)?;
+            let none: Vec<Term<A>, A> = Vec::new(alloc);
+            put_header(pid, &none, out)?;
             out.extend_from_slice(b"exited\n")
         }
         Some(process) => {

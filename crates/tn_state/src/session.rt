@@ -75,8 +75,8 @@ fn put_created<A: Allocator + Copy>(
     if !look.is_live() {
         return out.extend_from_slice(b"destroyed\n");
     }
-    let commands = since_creation(commands, name);
-    put_live(alloc, program, commands, name, look, out)
+    let later = since_creation(commands, name);
+    put_live(alloc, program, later, name, look, out)
 }
 
 /// A program's run, of which so many commands were taken, and the session alone that is asked for, where one is.
@@ -107,7 +107,14 @@ fn put_session<A: Allocator + Copy>(
         return Err(AllocError);
     };
     let commands = &context.program.commands()[..context.taken];
-    put_created(context.alloc, context.program, commands, &slot.name, &look, out)
+    put_created(
+        context.alloc,
+        context.program,
+        commands,
+        &slot.name,
+        &look,
+        out,
+    )
 }
 
 /// Whether the session of this name is asked for.

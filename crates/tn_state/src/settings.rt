@@ -1,5 +1,5 @@
 // The match specifications of a session.
-ghost use Rattle.std.specs.Prelude.{◌≡◌, ◌++◌, OnOk, IfOk, flat_map, map};
+ghost use Rattle.std.specs.Prelude.{◌≡◌, ◌∷◌, ◌++◌, [], OnOk, IfOk};
 ghost use Rattle.std.specs.Option.{option_map};
 ghost use Rattle.def_script.specs.Exports.{visible};
 ghost use Rattle.def_session.specs.Settings.{setting_of};
@@ -53,10 +53,7 @@ pub(crate) enum Subject<'a, A: Allocator> {
     Sends,
     Receives,
     /// A function, with whether it is exported.
-    Function {
-        mfa: &'a Mfa<A>,
-        exported: bool,
-    },
+    Function { mfa: &'a Mfa<A>, exported: bool },
 }
 
 /// Whether a list has no element.
@@ -92,8 +89,9 @@ fn kind_of<A: Allocator + Copy>(
     }
     match spec_of(alloc, term, dialect) {
         Ok(_) => Ok(Some(Kind::Spec)),
-        Err(SpecFault::Badarg | SpecFault::Unsupported(_)) => Ok(None),
-        Err(SpecFault::TooLarge | SpecFault::OutOfMemory) => Err(AllocError),
+        Err(SpecFault::Badarg) => Ok(None),
+        Err(SpecFault::Unsupported(_)) => Ok(None),
+        Err(_) => Err(AllocError),
     }
 }
 
@@ -300,6 +298,23 @@ fn put_functions<A: Allocator + Copy>(
     Ok(())
 }
 
+/// Appends the line of a setting of sends or of receives.
+fn put_setting_term<A: Allocator + Copy>(
+    alloc: A,
+    word: &str,
+    spec: Term<A>,
+    out: &mut Vec<u8, A>,
+) -> Result<(), AllocError>
+    requires { IsAtomText word.now }
+    ensures { OnOk result (out.new.items ≡ out.old.items ++
+        line_text (atom word.now ∷ match_spec_term (tree_of spec) ∷ [])) }
+{
+    let mut others = Vec::new(alloc);
+    others.push(match_spec_term(alloc, spec)?)?;
+    let first = Term::word(alloc, word)?;
+    put_line(&first, &others, out)
+}
+
 /// Appends the setting of sends or of receives, where it has a specification or is disabled.
 fn put_setting<A: Allocator + Copy>(
     alloc: A,
@@ -314,14 +329,11 @@ fn put_setting<A: Allocator + Copy>(
     let Some(found) = found else {
         return Ok(());
     };
-    let spec = match found.kind {
-        Kind::Off => Term::word(alloc, "false")?,
-        Kind::Plain => return Ok(()),
-        Kind::Spec => found.term.copy_into(alloc)?,
-    };
-    let mut others = Vec::new(alloc);
-    others.push(match_spec_term(alloc, spec)?)?;
-    put_line(&Term::word(alloc, word)?, &others, out)
+    match found.kind {
+        Kind::Off => put_setting_term(alloc, word, Term::word(alloc, "false")?, out),
+        Kind::Plain => Ok(()),
+        Kind::Spec => put_setting_term(alloc, word, found.term.copy_into(alloc)?, out),
+    }
 }
 
 /// Appends the settings of functions, of sends and of receives.

@@ -24,7 +24,10 @@ fn put_run<A: Allocator + Copy>(
     ensures { PutsRun (option_map (λ s. s.now) asked.entry) program.now run.now out.old.items out.new.items result }
 {
     let node = run.node();
-    let (Some(processes), Some(taken)) = (node.processes(), node.taken()) else {
+    let Some(processes) = node.processes() else {
+        return Err(AllocError);
+    };
+    let Some(taken) = node.taken() else {
         return Err(AllocError);
     };
     if taken > program.commands().len() || processes.len() > 64 {
@@ -53,6 +56,7 @@ pub(crate) fn put_state<A: Allocator + Copy>(
 {
     let recorder = Recorder::<A, Discard>::new(alloc, program)?;
     let mut given = Vec::new(alloc);
-    let run = drive(alloc, program, &Plan::Picks(picks), recorder, &mut given)?;
+    let plan = Plan::Picks(picks);
+    let run = drive(alloc, program, &plan, recorder, &mut given)?;
     put_run(alloc, program, &run, asked, out)
 }
