@@ -1,6 +1,6 @@
 -- The frames of a process, the newest first.
 use Rattle.std.proofs.Common.{◌≡◌, ◌∙◌, ℕ, zero, suc, ◌+◌, ◌-◌, ◌<◌, ◌≤◌, List, [], ◌∷◌, ◌++◌, length, take, get_or, map, reverse, refl, sym, ap, append_assoc, append-nil, arith}
-use Rattle.std.proofs.lemmas.List.{take_more, take_all, map-append}
+use Rattle.std.proofs.lemmas.List.{take_more, length-take-le, length-map, length-reverse, map-append, reverse-append}
 use Rattle.def_script.specs.Program.{Function}
 use Rattle.def_node.specs.Process.{Frame}
 use Rattle.def_state.specs.Lines.{line_text}
@@ -11,3 +11,44 @@ pub oldest_last : (ks : List Function) (fs : List Frame) (f : Frame) → oldest_
 oldest_last ks [] f = refl
 oldest_last ks (g ∷ []) f = refl
 oldest_last ks (g ∷ h ∷ fs) f = oldest_last ks (h ∷ fs) f
+
+-- so it is the first of frames whose newest is the last
+pub first_of_frames : {X : Type 0} (ks : List Function) (of : X → Frame) (xs : List X) (x : X) → 0 < length xs → x ≡ get_or xs 0 x → oldest_function ks (reverse (map of xs)) ≡ function_terms ks (of x).function
+first_of_frames ks of [] x some is = absurd (omega (arith, some))
+first_of_frames ks of (y ∷ ys) x some is =
+    ap (oldest_function ks) (reverse-append (of y ∷ []) (map of ys)) ∙ oldest_last ks (reverse (map of ys)) (of y) ∙ ap (λ z. function_terms ks (of z).function) (sym is)
+
+pub no_frames : {X : Type 0} (ks : List Function) (of : X → Frame) (xs : List X) → length xs ≡ 0 → oldest_function ks (reverse (map of xs)) ≡ []
+no_frames ks of [] none = refl
+no_frames ks of (y ∷ ys) none = absurd (omega (arith, none))
+
+-- ---- a loop from the newest frame down
+
+module _ {X : Type 0} (ks : List Function) (of : X → Frame) (xs : List X) (d : ℕ) (x : X) where
+  -- the frames at depths up to this one, the newest first
+  front : 0 < d → d ≤ length xs → x ≡ get_or xs (d - 1) x → reverse (map of (take d xs)) ≡ of x ∷ reverse (map of (take (d - 1) xs))
+  front some within is =
+      let back : (d - 1) + 1 ≡ d = omega (arith, some) in
+      let below : d - 1 < length xs = omega (arith, some, within) in
+      ap (λ n. reverse (map of (take n xs))) (sym back)
+      ∙ ap (λ ys. reverse (map of ys)) (take_more xs (d - 1) x below)
+      ∙ ap reverse (map-append of (take (d - 1) xs) (get_or xs (d - 1) x ∷ []))
+      ∙ reverse-append (map of (take (d - 1) xs)) (of (get_or xs (d - 1) x) ∷ [])
+      ∙ ap (λ y. of y ∷ reverse (map of (take (d - 1) xs))) (sym is)
+
+  size : 0 < d → d ≤ length xs → length (reverse (map of (take (d - 1) xs))) + 1 ≡ d
+  size some within =
+      let below : d - 1 ≤ length xs = omega (arith, some, within) in
+      let n : length (reverse (map of (take (d - 1) xs))) ≡ d - 1 = length-reverse (map of (take (d - 1) xs)) ∙ length-map (take (d - 1) xs) of ∙ length-take-le (d - 1) xs below in
+      omega (arith, some, n)
+
+  pub one_frame : (a b z : List ℕ) → 0 < d → d ≤ length xs → x ≡ get_or xs (d - 1) x → a ++ frames_text ks (reverse (map of (take d xs))) ≡ z → b ≡ a ++ line_text (frame_line ks (of x) d)
+      → b ++ frames_text ks (reverse (map of (take (d - 1) xs))) ≡ z
+  one_frame a b z some within is so_far text =
+      let rest : List Frame = reverse (map of (take (d - 1) xs)) in
+      let here : List ℕ = line_text (frame_line ks (of x) d) in
+      ap (λ y. y ++ frames_text ks rest) text
+      ∙ append_assoc a here (frames_text ks rest)
+      ∙ ap (λ n. a ++ (line_text (frame_line ks (of x) n) ++ frames_text ks rest)) (sym (size some within))
+      ∙ ap (λ fs. a ++ frames_text ks fs) (sym (front some within is))
+      ∙ so_far

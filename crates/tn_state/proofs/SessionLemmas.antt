@@ -1,23 +1,42 @@
 -- The sessions of a run beside their slots.
-use Rattle.std.proofs.Common.{◌≡◌, ◌∙◌, ℕ, zero, suc, ◌+◌, ◌<◌, ◌≤◌, Bool, true, false, if◌then◌else◌, List, [], ◌∷◌, ◌++◌, length, drop, take, get_or, map, Option, Some, None, refl, sym, ap, subst, append-nil, append_assoc, length-append, add-one, ◌-◌, arith}
+use Rattle.std.proofs.Common.{◌≡◌, ◌∙◌, ℕ, zero, suc, ◌+◌, ◌-◌, ◌<◌, ◌≤◌, Bool, true, false, if◌then◌else◌, List, [], ◌∷◌, ◌++◌, length, drop, take, get_or, map, Option, Some, None, refl, sym, ap, subst, add-one, append-nil, append_assoc, length-append, arith}
 use Rattle.std.specs.Prelude.{filter, flat_map, slice_get}
+use Rattle.std.specs.Option.{option_map, unwrap_or}
 use Rattle.std.specs.Str.{bytes_eq}
-use Rattle.std.proofs.lemmas.List.{drop_more, drop_all}
+use Rattle.std.proofs.lemmas.List.{drop_all}
 use Rattle.def_term.specs.Alive.{Alive}
-use Rattle.def_term.specs.Names.{Name}
+use Rattle.def_term.specs.Names.{Name, word}
 use Rattle.def_term.specs.Tree.{Tree}
 use Rattle.def_script.specs.Exports.{Exports, exports_of}
 use Rattle.def_script.specs.Program.{Command, Function, Program, session_of}
 use Rattle.def_script.specs.Script.{creations}
-use Rattle.def_run.specs.Run.{HistoryItem, event_item, command_item, RunState, PickStep, stays, takes_command, goes_to, pick_step_in, pick_step_with, pick_step, history_from, run_state_after, start, events, run_state_of}
-use Rattle.def_run.specs.View.{is_own}
 use Rattle.def_node.specs.Node.{Move, moved, idle, next_of}
-use Rattle.def_state.specs.SettingTerms.{commands_in}
-use Rattle.tn_trace.specs.Slots.{IsTracked, EachPair}
-use Rattle.tn_trace.specs.Tracks.{Track, track_after, tracks_from}
+use Rattle.def_session.specs.State.{Phase, absent, live, destroyed}
+use Rattle.def_run.specs.Run.{HistoryItem, event_item, command_item, RunState, PickStep, takes_command, goes_to, pick_step_in, pick_step_with, pick_step, history_from, run_state_after, start, events, run_state_of}
+use Rattle.def_run.specs.View.{is_own}
+use Rattle.def_run.specs.Listing.{header_line, state_of}
+use Rattle.def_state.specs.Lines.{line_text}
+use Rattle.def_state.specs.SettingTerms.{after_creation, commands_in, commands_to}
+use Rattle.def_state.specs.SessionTexts.{live_text, text_in_phase}
+use Rattle.def_state.specs.States.{session_text}
+use Rattle.tn_term.specs.Views.{alive_of}
+use Rattle.tn_flags.specs.Views.{command_of}
+use Rattle.tn_flags.specs.declared.command.Command.{Command as CodeCommand}
+use Rattle.tn_session.specs.Looks.{is_live, look_seen}
+use Rattle.tn_session.specs.Sessions.{value_in}
+use Rattle.tn_session.specs.Views.{phase_seen}
+use Rattle.tn_session.specs.declared.look.Look.{Look}
+use Rattle.tn_session.specs.declared.session.Session.{Session}
+use Rattle.tn_session.specs.declared.state.Phase as code
+use Rattle.tn_session.specs.declared.state.Phase.TheVariants.{Live, Destroyed}
+use Rattle.tn_trace.specs.Recorders.{HasRecorded}
+use Rattle.tn_trace.specs.Slots.{IsSession, IsTracked, EachPair}
+use Rattle.tn_trace.specs.Tracks.{track_after, tracks_from}
 use Rattle.tn_trace.specs.declared.discard.Discard.{Discard}
+use Rattle.tn_trace.specs.declared.recorder.Recorder.{Recorder}
 use Rattle.tn_trace.specs.declared.slot.Slot.{Slot}
-use Rattle.tn_state.specs.Commands.{is_command_to}
+use Rattle.tn_state.specs.Commands.{is_command_to, own_commands}
+use Rattle.tn_state.specs.Sessions.{AreSlotsAfter, AreTakenOf, IsSlotAfter, view_of}
 
 -- ---- the commands among what was shown
 
@@ -129,3 +148,59 @@ module _ (f : Name × Name → List ℕ) (ss : List (Name × Name)) (k : ℕ) wh
 
   pub no_session : (a z : List ℕ) → length ss ≤ k → a ++ flat_map f (drop k ss) ≡ z → a ≡ z
   no_session a z past so_far = sym (append-nil a) ∙ ap (λ x. a ++ x) (sym (ap (flat_map f) (drop_all k ss past))) ∙ so_far
+
+-- ---- one session
+
+module _ {A : Type 0} (o : Exports) (l : Look A) (cs : List Command) where
+  live_or : (p : Phase) → is_live p ≡ true → text_in_phase p o (look_seen l) cs ≡ live_text o (look_seen l) cs
+  live_or absent h = cc
+  live_or live h = refl
+  live_or destroyed h = cc
+
+  pub live_written : is_live (look_seen l).phase ≡ true → text_in_phase (look_seen l).phase o (look_seen l) cs ≡ live_text o (look_seen l) cs
+  live_written h = live_or (look_seen l).phase h
+
+  ended : (p : code.Phase) → is_live (phase_seen p) ≡ false → text_in_phase (phase_seen p) o (look_seen l) cs ≡ line_text (word "destroyed" ∷ [])
+  ended Live h = cc
+  ended Destroyed h = refl
+
+  pub destroyed_written : is_live (look_seen l).phase ≡ false → text_in_phase (look_seen l).phase o (look_seen l) cs ≡ line_text (word "destroyed" ∷ [])
+  destroyed_written h = ended l.state.now.phase h
+
+module _ {A : Type 0} (p : Program) (items : List HistoryItem) (s : Name × Name) (taken : ℕ) (shown : AreTakenOf p taken items) where
+  -- the commands to the session are those of the program that were taken
+  pub commands_taken : (cmds : List (CodeCommand A)) → map command_of cmds ≡ take taken p.commands → commands_to (filter (is_own s.0) items) ≡ after_creation (own_commands s.0 cmds)
+  commands_taken cmds e = ap after_creation (own_shown s.0 items ∙ ap (filter (is_command_to s.0)) (shown ∙ sym e))
+
+  pub absent_session_written : (slot : Slot A Discard) (a b d : List ℕ) → slot.session ≡ None → IsSlotAfter p items s.0 slot → b ≡ a ++ header_line s.0 s.1 → d ≡ b ++ line_text (word "absent" ∷ []) → d ≡ a ++ session_text s (view_of p items s.0)
+  absent_session_written slot a b d none h header text =
+      let before : IsSession (exports_of p).functions h.0 (state_of (view_of p items s.0)) None = subst (IsSession (exports_of p).functions h.0 (state_of (view_of p items s.0))) none h.1 in
+      text ∙ ap (λ x. x ++ line_text (word "absent" ∷ [])) header ∙ append_assoc a (header_line s.0 s.1) (line_text (word "absent" ∷ []))
+      ∙ ap (λ v. a ++ (header_line s.0 s.1 ++ text_in_phase v.phase (exports_of p) v (commands_to (filter (is_own s.0) items)))) (sym before)
+
+  pub created_session_written : (slot : Slot A Discard) (session : Session A) (l : Look A) (cmds : List (CodeCommand A)) (a b d : List ℕ) → slot.session ≡ Some session
+      → Some (look_seen l) ≡ option_map (λ v. v.state) (value_in session) → IsSlotAfter p items s.0 slot → map command_of cmds ≡ take taken p.commands
+      → b ≡ a ++ header_line s.0 s.1 → d ≡ b ++ text_in_phase (look_seen l).phase (exports_of p) (look_seen l) (after_creation (own_commands s.0 cmds))
+      → d ≡ a ++ session_text s (view_of p items s.0)
+  created_session_written slot session l cmds a b d there seen h e header text =
+      let state = state_of (view_of p items s.0) in
+      let is : IsSession (exports_of p).functions h.0 state (Some session) = subst (IsSession (exports_of p).functions h.0 state) there h.1 in
+      let same : look_seen l ≡ state = some_is (seen ∙ ap (option_map (λ v. v.state)) is) in
+      let own = text_in_phase (look_seen l).phase (exports_of p) (look_seen l) (after_creation (own_commands s.0 cmds)) in
+      text ∙ ap (λ x. x ++ own) header ∙ append_assoc a (header_line s.0 s.1) own
+      ∙ ap (λ v. a ++ (header_line s.0 s.1 ++ text_in_phase v.phase (exports_of p) v (after_creation (own_commands s.0 cmds)))) same
+      ∙ ap (λ cs. a ++ (header_line s.0 s.1 ++ text_in_phase state.phase (exports_of p) state cs)) (sym (commands_taken cmds e))
+    where
+      some_is : {X : Type 0} {x y : X} → Some x ≡ Some y → x ≡ y
+      some_is {X} {x} {y} e = ap (λ o. unwrap_or o x) e
+
+-- the slots of a run are those of its sessions
+pub slots_after : {A : Type 0} (p : Program) (picks : List ℕ) (r : Recorder A Discard) → HasRecorded (λ (k : Discard) (ts : List Tree). Unit {0}) r p picks → AreSlotsAfter p (events p picks) r.slots.items
+slots_after p picks r h = (alive_of r.living, h.sessions)
+
+-- and the slot at a place is that of its session
+pub slot_at : {A : Type 0} (p : Program) (items : List HistoryItem) (slots : List (Slot A Discard)) (k : ℕ) (s : Name × Name) (slot : Slot A Discard) → AreSlotsAfter p items slots → slice_get (creations p.commands) k ≡ Some s → k < length slots → slot ≡ get_or slots k slot
+    → (slot.name ≡ s.0) × IsSlotAfter p items s.0 slot
+slot_at p items slots k s slot h is below at =
+    let t = tracked_at (exports_of p) h.0 items 1 k (creations p.commands) slots s slot h.1 is below at in
+    (t.name, (h.0, t.session))
