@@ -164,6 +164,7 @@ def completions():
             (("tracenode", "explain", "--m"), ["--max-output", "--move", "--moves", "--moves-file"]),
             (("tracenode", "ru"), ["run"]),
             (("tracenode", "run", "--l"), ["--limit"]),
+            (("tracenode", "state", "--a"), ["--at"]),
             (("tracenode", "draw", "--r"), ["--reject-line", "--round"]),
             (("tracenode", "draw", "--m"), ["--max-output", "--moves", "--moves-file"]),
             (("tracenode", "round", "--m"), ["--max-output"]),
