@@ -18,7 +18,11 @@ use Rattle.def_run.specs.Listing.{header_line, state_of}
 use Rattle.def_state.specs.Lines.{line_text}
 use Rattle.def_state.specs.SettingTerms.{after_creation, commands_in, commands_to}
 use Rattle.def_state.specs.SessionTexts.{live_text, text_in_phase}
-use Rattle.def_state.specs.States.{session_text}
+use Rattle.def_state.specs.States.{session_text, sessions_text, text_after}
+use Rattle.def_state.specs.ProcessTexts.{processes_text}
+use Rattle.def_node.specs.Process.{Process}
+use Rattle.def_run.specs.Laws.{state_at}
+use Rattle.tn_node.specs.Nodes.{NodeValue, node_at, slots_in, taken_in}
 use Rattle.tn_term.specs.Views.{alive_of}
 use Rattle.tn_flags.specs.Views.{command_of}
 use Rattle.tn_flags.specs.declared.command.Command.{Command as CodeCommand}
@@ -204,3 +208,19 @@ pub slot_at : {A : Type 0} (p : Program) (items : List HistoryItem) (slots : Lis
 slot_at p items slots k s slot h is below at =
     let t = tracked_at (exports_of p) h.0 items 1 k (creations p.commands) slots s slot h.1 is below at in
     (t.name, (h.0, t.session))
+
+-- ---- a run
+
+-- as many commands were taken as the node says
+pub taken_of : (p : Program) (picks : List ℕ) (taken : ℕ) (n : Option NodeValue) → n ≡ Some (node_at p (state_at p (run_state_of p picks))) → Some taken ≡ taken_in n → AreTakenOf p taken (events p picks)
+taken_of p picks taken n node e =
+    let same : taken ≡ length p.commands - length (run_state_of p picks).commands = ap (λ o. unwrap_or o taken) (e ∙ ap taken_in node) in
+    commands_shown p picks ∙ ap (λ k. take k p.commands) (sym same)
+
+-- the sessions, and then the processes
+pub run_written : (p : Program) (picks : List ℕ) (asked : Option Name) (slots : List (Option Process)) (n : Option NodeValue) (a b d : List ℕ) → n ≡ Some (node_at p (state_at p (run_state_of p picks))) → Some slots ≡ slots_in n
+    → b ≡ a ++ sessions_text asked p picks → d ≡ b ++ processes_text p.functions 100 slots → d ≡ a ++ text_after asked p picks
+run_written p picks asked slots n a b d node e first last =
+    let same : slots ≡ (run_state_of p picks).world.slots = ap (λ o. unwrap_or o slots) (e ∙ ap slots_in node) in
+    last ∙ ap (λ x. x ++ processes_text p.functions 100 slots) first ∙ append_assoc a (sessions_text asked p picks) (processes_text p.functions 100 slots)
+    ∙ ap (λ ss. a ++ (sessions_text asked p picks ++ processes_text p.functions 100 ss)) same

@@ -1,10 +1,11 @@
 // The state of a run, where the session and the move that are asked for are there.
-ghost use Rattle.std.specs.Prelude.{◌≡◌, IfOk, map};
+ghost use Rattle.std.specs.Prelude.{◌≡◌, true, false, IfOk, map};
+ghost use Rattle.std.specs.Option.{option_map};
 ghost use Rattle.def_script.specs.Rules.{creates_session, is_created};
 ghost use Rattle.tn_flags.specs.Views.{command_of};
 ghost use Rattle.tn_moves.specs.Plans.{plan_picks};
 ghost use Rattle.tn_program.specs.Views.{program_of};
-ghost use Rattle.tn_state.specs.Requests.{IsAnswer};
+ghost use Rattle.tn_state.specs.Requests.{HasSession, IsAnswer, LacksSession};
 
 use crate::request::{StateOutcome, StateQuestion};
 use crate::state::put_state;
@@ -35,6 +36,17 @@ fn has_session<A: Allocator>(commands: &[Command<A>], name: &str) -> bool
     false
 }
 
+/// Whether a session is asked for that the control list doesn't create.
+fn lacks_session<A: Allocator>(program: &Program<A>, asked: Option<&str>) -> bool
+    ensures lacks { result ≡ true → LacksSession (option_map (λ s. s.now) asked.entry) (program_of program.now) }
+    ensures has { result ≡ false → HasSession (option_map (λ s. s.now) asked.entry) (program_of program.now) }
+{
+    match asked {
+        Some(name) => !has_session(program.commands(), name),
+        None => false,
+    }
+}
+
 /// The state of the program's run by a plan, where the session and the move that are asked for are there; else no text,
 /// and which of them isn't there.
 ///
@@ -51,10 +63,8 @@ pub fn state_of<A: Allocator + Copy>(
         IfOk result (λ r. IsAnswer p (plan_picks p plan.now) question.now r.0 r.1.items) }
 {
     let mut out = Vec::new(alloc);
-    if let Some(name) = question.session {
-        if !has_session(program.commands(), name) {
-            return Ok((StateOutcome::NoSession, out));
-        }
+    if lacks_session(program, question.session) {
+        return Ok((StateOutcome::NoSession, out));
     }
     let journal = moves_of_plan(alloc, program, plan)?;
     if question.move_number > journal.len() as u64 {

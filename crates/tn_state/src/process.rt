@@ -9,7 +9,7 @@ ghost use Rattle.def_state.specs.ProcessTexts.{variable_term, function_terms, st
 ghost use Rattle.def_state.specs.ProcessTexts.{status_term, messages_term, links_term, signal_text, living_text};
 ghost use Rattle.def_state.specs.ProcessTexts.{process_header, process_text, processes_text};
 ghost use Rattle.def_term.specs.Tree.{pid};
-ghost use Rattle.def_term.specs.Names.{mfa_term};
+ghost use Rattle.def_term.specs.Names.{mfa_term, word};
 ghost use Rattle.tn_process.specs.Views.{frame_of, name_and_term, process_seen};
 ghost use Rattle.tn_node.specs.Worlds.{slot_of};
 ghost use Rattle.tn_script.specs.Views.{entry_of, functions_of};
@@ -125,8 +125,9 @@ fn put_frames<A: Allocator + Copy>(
 {
     let mut depth = frames.len();
     while depth > 0 {
-        put_frame(alloc, functions, &frames[depth - 1], depth, out)?;
-        depth -= 1;
+        let place = depth - 1;
+        put_frame(alloc, functions, &frames[place], depth, out)?;
+        depth = place;
     }
     Ok(())
 }
@@ -218,6 +219,7 @@ fn entry_mfa<A: Allocator + Copy>(alloc: A, entry: &Entry<A>) -> Result<Mfa<A>, 
 }
 
 /// The function that a process began with.
+#[tactic(auto, using(crate::proofs::ProcessLemmas::first_of_frames, crate::proofs::ProcessLemmas::no_frames))]
 fn first_terms<A: Allocator + Copy>(
     alloc: A,
     functions: &[Function<A>],
@@ -251,8 +253,15 @@ fn put_header<A: Allocator + Copy>(
     put_line(&owner, others, out)
 }
 
-/// Appends the text of a process that was started with this pid.
+/// Appends that a process has exited.
 #[tactic(auto, unfolding(def_term::specs::Text::is_written_bare))]
+fn put_exited<A: Allocator>(out: &mut Vec<u8, A>) -> Result<(), AllocError>
+    ensures { OnOk result (out.new.items ≡ out.old.items ++ line_text (word "exited" ∷ [])) }
+{
+    out.extend_from_slice(b"exited\n")
+}
+
+/// Appends the text of a process that was started with this pid.
 fn put_process<A: Allocator + Copy>(
     alloc: A,
     functions: &[Function<A>],
@@ -267,7 +276,7 @@ fn put_process<A: Allocator + Copy>(
         None => {
             let none: Vec<Term<A>, A> = Vec::new(alloc);
             put_header(pid, &none, out)?;
-            out.extend_from_slice(b"exited\n")
+            put_exited(out)
         }
         Some(process) => {
             let terms = first_terms(alloc, functions, process)?;

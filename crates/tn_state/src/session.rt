@@ -1,11 +1,13 @@
 // The sessions of a run.
-ghost use Rattle.std.specs.Prelude.{◌≡◌, ◌++◌, OnOk};
+ghost use Rattle.std.specs.Prelude.{◌≡◌, ◌∷◌, ◌++◌, [], OnOk};
 ghost use Rattle.std.specs.Option.{option_map};
 ghost use Rattle.def_run.specs.Listing.{header_line};
 ghost use Rattle.def_script.specs.Exports.{exports_of};
+ghost use Rattle.def_state.specs.Lines.{line_text};
 ghost use Rattle.def_state.specs.SettingTerms.{after_creation};
 ghost use Rattle.def_state.specs.SessionTexts.{live_text, text_in_phase};
 ghost use Rattle.def_state.specs.States.{asks_for};
+ghost use Rattle.def_term.specs.Names.{word};
 ghost use Rattle.tn_program.specs.Views.{program_of};
 ghost use Rattle.tn_session.specs.Looks.{look_seen};
 ghost use Rattle.tn_state.specs.Commands.{own_commands};
@@ -39,6 +41,22 @@ fn put_header<A: Allocator, B: Allocator>(
     Ok(())
 }
 
+/// Appends that a session isn't created yet.
+#[tactic(auto, unfolding(def_term::specs::Text::is_written_bare))]
+fn put_absent<B: Allocator>(out: &mut Vec<u8, B>) -> Result<(), AllocError>
+    ensures { OnOk result (out.new.items ≡ out.old.items ++ line_text (word "absent" ∷ [])) }
+{
+    out.extend_from_slice(b"absent\n")
+}
+
+/// Appends that a session was destroyed.
+#[tactic(auto, unfolding(def_term::specs::Text::is_written_bare))]
+fn put_destroyed<B: Allocator>(out: &mut Vec<u8, B>) -> Result<(), AllocError>
+    ensures { OnOk result (out.new.items ≡ out.old.items ++ line_text (word "destroyed" ∷ [])) }
+{
+    out.extend_from_slice(b"destroyed\n")
+}
+
 /// Appends the lines of a live session, to which these commands were given.
 #[tactic(auto, unfolding(def_term::specs::Text::is_written_bare))]
 fn put_live<A: Allocator + Copy>(
@@ -60,7 +78,6 @@ fn put_live<A: Allocator + Copy>(
 }
 
 /// Appends the lines of a session that was created, to which these commands were given.
-#[tactic(auto, unfolding(def_term::specs::Text::is_written_bare))]
 fn put_created<A: Allocator + Copy>(
     alloc: A,
     program: &Program<A>,
@@ -73,7 +90,7 @@ fn put_created<A: Allocator + Copy>(
         (exports_of (program_of program.now)) s (after_creation (own_commands name.now commands.now))) }
 {
     if !look.is_live() {
-        return out.extend_from_slice(b"destroyed\n");
+        return put_destroyed(out);
     }
     let later = since_creation(commands, name);
     put_live(alloc, program, later, name, look, out)
@@ -89,7 +106,6 @@ pub(crate) struct SessionContext<'a, A: Allocator> {
 }
 
 /// Appends the text of a session.
-#[tactic(auto, unfolding(def_term::specs::Text::is_written_bare))]
 fn put_session<A: Allocator + Copy>(
     context: &SessionContext<'_, A>,
     slot: &Slot<A, Discard>,
@@ -101,7 +117,7 @@ fn put_session<A: Allocator + Copy>(
 {
     put_header(&slot.name, tracer, out)?;
     let Some(session) = &slot.session else {
-        return out.extend_from_slice(b"absent\n");
+        return put_absent(out);
     };
     let Some(look) = session.look() else {
         return Err(AllocError);
@@ -157,7 +173,8 @@ pub(crate) fn put_sessions<A: Allocator + Copy>(
         let Some((_, tracer)) = context.program.session_at(place) else {
             return Err(AllocError);
         };
-        put_asked(context, &slots[place], tracer, out)?;
+        let slot = &slots[place];
+        put_asked(context, slot, tracer, out)?;
     }
     Ok(())
 }

@@ -3,11 +3,13 @@ ghost use Rattle.std.specs.Prelude.{◌≡◌, ◌∷◌, ◌++◌, [], OnOk, If
 ghost use Rattle.std.specs.Option.{option_map};
 ghost use Rattle.def_script.specs.Exports.{visible};
 ghost use Rattle.def_session.specs.Settings.{setting_of};
-ghost use Rattle.def_state.specs.SettingTerms.{newest};
+ghost use Rattle.def_state.specs.SettingTerms as definition;
+ghost use Rattle.def_state.specs.SettingTerms.{send_term_of, receive_term_of};
 ghost use Rattle.def_state.specs.Lines.{line_text};
 ghost use Rattle.def_state.specs.SessionTexts.{match_spec_term, pattern_line, function_text, function_texts};
 ghost use Rattle.def_state.specs.SessionTexts.{setting_text, settings_text};
 ghost use Rattle.def_term.specs.Atoms.{IsAtomText};
+ghost use Rattle.def_term.specs.Names.{word};
 ghost use Rattle.def_term.specs.Order.{same};
 ghost use Rattle.def_term.specs.Tree.{atom, list, none};
 ghost use Rattle.tn_flags.specs.Views.{command_of};
@@ -196,7 +198,7 @@ fn newest<'a, A: Allocator + Copy>(
     subject: &Subject<'_, A>,
 ) -> Result<Option<Found<'a, A>>, AllocError>
     ensures { IfOk result (λ r. option_map found_seen r ≡
-        newest (subject_found subject.now) (own_commands name.now commands.now)) }
+        definition.newest (subject_found subject.now) (own_commands name.now commands.now)) }
 {
     let mut newest = None;
     for command in commands {
@@ -336,6 +338,34 @@ fn put_setting<A: Allocator + Copy>(
     }
 }
 
+/// Appends the setting of sends, where it has a specification or is disabled.
+fn put_sends<A: Allocator + Copy>(
+    alloc: A,
+    commands: &[Command<A>],
+    name: &Atom<A>,
+    out: &mut Vec<u8, A>,
+) -> Result<(), AllocError>
+    ensures { OnOk result (out.new.items ≡ out.old.items ++
+        setting_text (word "send") (definition.newest send_term_of (own_commands name.now commands.now))) }
+{
+    let found = newest(alloc, commands, name, &Subject::Sends)?;
+    put_setting(alloc, "send", found, out)
+}
+
+/// Appends the setting of receives, where it has a specification or is disabled.
+fn put_receives<A: Allocator + Copy>(
+    alloc: A,
+    commands: &[Command<A>],
+    name: &Atom<A>,
+    out: &mut Vec<u8, A>,
+) -> Result<(), AllocError>
+    ensures { OnOk result (out.new.items ≡ out.old.items ++
+        setting_text (word "receive") (definition.newest receive_term_of (own_commands name.now commands.now))) }
+{
+    let found = newest(alloc, commands, name, &Subject::Receives)?;
+    put_setting(alloc, "receive", found, out)
+}
+
 /// Appends the settings of functions, of sends and of receives.
 pub(crate) fn put_settings<A: Allocator + Copy>(
     alloc: A,
@@ -348,8 +378,6 @@ pub(crate) fn put_settings<A: Allocator + Copy>(
         settings_text (own_commands name.now commands.now) (visible (functions_of functions.now))) }
 {
     put_functions(alloc, commands, name, functions, out)?;
-    let sends = newest(alloc, commands, name, &Subject::Sends)?;
-    put_setting(alloc, "send", sends, out)?;
-    let receives = newest(alloc, commands, name, &Subject::Receives)?;
-    put_setting(alloc, "receive", receives, out)
+    put_sends(alloc, commands, name, out)?;
+    put_receives(alloc, commands, name, out)
 }
