@@ -1,4 +1,5 @@
 mod Texts
+mod FlagTexts
 mod OwnCommands
 mod ProcessLemmas
 mod FoundLemmas

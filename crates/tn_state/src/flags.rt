@@ -59,6 +59,26 @@ fn flag_names<A: Allocator + Copy>(alloc: A, flags: Flags) -> Result<Vec<Term<A>
     Ok(names)
 }
 
+/// Appends what has the flags of these names, where there are some.
+#[tactic(auto, using(crate::proofs::FlagTexts::some_flags, crate::proofs::FlagTexts::no_flags))]
+fn put_names<A: Allocator + Copy>(
+    alloc: A,
+    owner: &Term<A>,
+    names: Vec<Term<A>, A>,
+    out: &mut Vec<u8, A>,
+) -> Result<(), AllocError>
+    ensures { OnOk result (out.new.items ≡ out.old.items ++
+        flags_text (tree_of owner.now) (map tree_of names.items)) }
+{
+    if names.is_empty() {
+        return Ok(());
+    }
+    let flags = pair(alloc, "flags", Term::List(names))?;
+    let mut others = Vec::new(alloc);
+    others.push(flags)?;
+    put_line(owner, &others, out)
+}
+
 /// Appends what has these flags, where there are some.
 fn put_flags<A: Allocator + Copy>(
     alloc: A,
@@ -70,13 +90,7 @@ fn put_flags<A: Allocator + Copy>(
         flags_text (tree_of owner.now) (flags_among (flags_of flags) flags_by_name)) }
 {
     let names = flag_names(alloc, flags)?;
-    if names.is_empty() {
-        return Ok(());
-    }
-    let mut others = Vec::new(alloc);
-    let flags = pair(alloc, "flags", Term::List(names))?;
-    others.push(flags)?;
-    put_line(owner, &others, out)
+    put_names(alloc, owner, names, out)
 }
 
 /// Appends the flags of a process, where it lives.
