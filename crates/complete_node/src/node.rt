@@ -87,10 +87,10 @@ pub fn processes<'a, A: Allocator + Copy>(
     (one.processes(), other.processes())
 }
 
-/// `tn_node::Node::taken` has one answer.
-pub fn taken<A: Allocator + Copy>(one: &Node<A>, other: &Node<A>) -> (Option<usize>, Option<usize>)
+/// `tn_node::Node::commands_taken` has one answer.
+pub fn commands_taken<A: Allocator + Copy>(one: &Node<A>, other: &Node<A>) -> (Option<usize>, Option<usize>)
     requires { one.now ≡ other.now }
     ensures { result.0 ≡ result.1 }
 {
-    (one.taken(), other.taken())
+    (one.commands_taken(), other.commands_taken())
 }

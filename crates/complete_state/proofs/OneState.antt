@@ -10,7 +10,7 @@ use Rattle.tn_run.specs.Jobs.{Gives, OfScript}
 use Rattle.tn_run.specs.declared.outcome.Outcome.TheVariants as run
 use Rattle.tn_run.specs.declared.outcome.RunRefusal.{RunRefusal}
 use Rattle.tn_run.specs.declared.outcome.RunRefusal.TheVariants.{Text, Moves}
-use Rattle.tn_state.specs.Requests.{asked_name, HasSession, LacksSession, IsAnswer, IsAskedAnswer, state_by}
+use Rattle.tn_state.specs.Requests.{asked_name, HasSession, LacksSession, IsStateReport, IsAskedState, state_by}
 use Rattle.tn_state.specs.declared.request.StateQuestion.{StateQuestion}
 use Rattle.tn_state.specs.declared.request.StateRequest.{StateRequest}
 use Rattle.tn_state.specs.declared.request.StateOutcome.{StateOutcome}
@@ -26,7 +26,7 @@ no_session (Some n) p h i = cc
 no_move : (n m : ℕ) → n ≤ m → m < n → ⊥
 no_move n m h i = omega (arith, h, i)
 
-pub one_answer : (p : Program) (picks : List ℕ) (q : StateQuestion) (o u : StateOutcome) (x y : List ℕ) → IsAnswer p picks q o x → IsAnswer p picks q u y → (o ≡ u) × (x ≡ y)
+pub one_answer : (p : Program) (picks : List ℕ) (q : StateQuestion) (o u : StateOutcome) (x y : List ℕ) → IsStateReport p picks q o x → IsStateReport p picks q u y → (o ≡ u) × (x ≡ y)
 one_answer p picks q State State x y h i = (refl, h.2 ∙ sym i.2)
 one_answer p picks q State NoSession x y h i = absurd (no_session (asked_name q) p h.0 i.0)
 one_answer p picks q State NoMove x y h i = absurd (no_move q.move_number (length (moves p picks)) h.1 i.1)
@@ -48,7 +48,7 @@ module _ (bytes : List ℕ) (q : StateRequest) where
   view = schedule_seen q.schedule
 
   abbrev IsShownOf : StateOutcome → List ℕ → Type 0
-  IsShownOf o x = OfScript bytes (λ p. IsAskedAnswer q p o x)
+  IsShownOf o x = OfScript bytes (λ p. IsAskedState q p o x)
 
   same_answer : (o u : StateOutcome) (x y : List ℕ) → IsShownOf o x → IsShownOf u y → (o ≡ u) × (x ≡ y)
   same_answer o u x y h i =
@@ -56,7 +56,7 @@ module _ (bytes : List ℕ) (q : StateRequest) where
       let program : i.program ≡ h.program = one_program bytes i.program h.program i.accepted h.accepted in
       let picks : i.output.picks ≡ h.output.picks = one_picks view h.program i.output.picks h.output.picks (subst (λ p. ArePicks view p i.output.picks) program i.output.given) h.output.given in
       one_answer h.program h.output.picks a o u x y h.output.answer
-      (subst (λ p. IsAnswer p h.output.picks a u y) program (subst (λ ps. IsAnswer i.program ps a u y) picks i.output.answer))
+      (subst (λ p. IsStateReport p h.output.picks a u y) program (subst (λ ps. IsStateReport i.program ps a u y) picks i.output.answer))
 
   -- it is refused as the run is
   run_refused : (r : RunRefusal) (x : List ℕ) → Gives (state_by q) bytes (Refused r) x → Gives (run_for view) bytes (run.Refused r) x

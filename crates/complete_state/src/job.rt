@@ -12,7 +12,7 @@ use tn_run::RunFault;
 use tn_state::{StateOutcome, StateRequest};
 use tn_text::Watched;
 
-/// `tn_state::show_state` has one answer where the readers tell their bytes, but for which end fails, and when:
+/// `tn_state::show_state` has one answer where the bytes of both readers are known, but for which end fails, and when:
 /// there is one outcome, and what is written, left and remembered goes by the fault.
 pub fn show_state<A: Allocator + Copy, R: Read, W: Write>(
     alloc: A,

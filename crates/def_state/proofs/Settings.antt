@@ -19,7 +19,7 @@ use Rattle.def_run.specs.Run.{HistoryItem, event_item, command_item}
 use Rattle.def_run.specs.View.{View}
 use Rattle.def_run.specs.Listing.{session_after, state_of}
 use Rattle.def_run.proofs.DestroyedSessions.{still_destroyed}
-use Rattle.def_state.specs.SettingTerms.{SettingTerm, FunctionTerm, commands_in, after_creation, commands_to, or_else, newest_from, newest, setting_term_by, send_term_of, receive_term_of, function_term_for, function_term_by, term_among, function_term_of, function_term_to}
+use Rattle.def_state.specs.SettingTerms.{SettingTerm, FunctionTerm, commands_among, after_creation, commands_to, or_else, newest_from, newest, setting_term_by, send_term_of, receive_term_of, function_term_for, function_term_by, term_among, function_term_of, function_term_to}
 use Rattle.def_state.specs.Laws.{setting_by, setting_or_plain, FunctionTermsAreTheSettings, OtherTermsAreTheSettings}
 
 -- ---- the settings of a session
@@ -173,7 +173,7 @@ module _ (o : Exports) (c : Call) where
   abbrev Follows : Session → List HistoryItem → Option FunctionTerm → Option SettingTerm → Option SettingTerm → Type 0
   Follows s items f sends receives =
       (session_after o s items).phase ≡ live
-      → AreFor c (session_after o s items) (newest_from (function_term_to c.mfa c.exported) f (commands_in items)) (newest_from send_term_of sends (commands_in items)) (newest_from receive_term_of receives (commands_in items))
+      → AreFor c (session_after o s items) (newest_from (function_term_to c.mfa c.exported) f (commands_among items)) (newest_from send_term_of sends (commands_among items)) (newest_from receive_term_of receives (commands_among items))
 
   -- one command more, where it is known what follows
   module _ (s : Session) (items : List HistoryItem) (f : Option FunctionTerm) (sends receives : Option SettingTerm) (h : s.phase ≡ live) (a : AreFor c s f sends receives)
@@ -211,7 +211,7 @@ module _ (o : Exports) (c : Call) where
   abbrev FollowsAbsent : Session → List HistoryItem → Type 0
   FollowsAbsent s items =
       (session_after o s items).phase ≡ live
-      → AreFor c (session_after o s items) (newest (function_term_to c.mfa c.exported) (after_creation (commands_in items))) (newest send_term_of (after_creation (commands_in items))) (newest receive_term_of (after_creation (commands_in items)))
+      → AreFor c (session_after o s items) (newest (function_term_to c.mfa c.exported) (after_creation (commands_among items))) (newest send_term_of (after_creation (commands_among items))) (newest receive_term_of (after_creation (commands_among items)))
 
   -- one command more, where it is known what follows
   module _ (s : Session) (items : List HistoryItem) (h : s.phase ≡ absent) (a : AreFor c s None None None)

@@ -7,7 +7,7 @@ use Rattle.def_term.specs.Tree.{Tree, pid, list, none}
 use Rattle.def_script.specs.Program.{Command, Program, send, receive, link, set_function, set_send, set_receive}
 use Rattle.def_run.proofs.Samples.{number, braces, brackets, words, function, entry, call_named, program, creates, destroys, sets, mfa_of}
 use Rattle.def_run.specs.View.{view}
-use Rattle.def_state.specs.Lines.{line_text, pair}
+use Rattle.def_state.specs.Lines.{terms_line, pair_term}
 use Rattle.def_state.specs.SessionTexts.{flags_term, match_spec_term, frame_term, text_by_view}
 use Rattle.def_state.specs.States.{state_text}
 
@@ -50,16 +50,16 @@ one_call =
 
 -- flags are in their own order, functions in that of the script, and the frame of the call has a mark
 settings_of_a_call : text_by_view (view (codes "s") one_call (0 ∷ 0 ∷ 0 ∷ 0 ∷ 0 ∷ 0 ∷ 0 ∷ 0 ∷ 0 ∷ 100 ∷ 100 ∷ []))
-    ≡ line_text (word "live" ∷ [])
-    ++ line_text (pid 100 ∷ flags_term (word "call" ∷ word "arity" ∷ []) ∷ [])
-    ++ line_text (mfa_of "go" 0 ∷ pair (word "traced") (word "global") ∷ match_spec_term (list none) ∷ [])
-    ++ line_text (mfa_of "f" 0 ∷ pair (word "traced") (word "global") ∷ match_spec_term marking ∷ [])
-    ++ line_text (word "send" ∷ match_spec_term (word "false") ∷ [])
-    ++ line_text (pid 100 ∷ frame_term 2 ∷ word "return_trace" ∷ [])
+    ≡ terms_line (word "live" ∷ [])
+    ++ terms_line (pid 100 ∷ flags_term (word "call" ∷ word "arity" ∷ []) ∷ [])
+    ++ terms_line (mfa_of "go" 0 ∷ pair_term (word "traced") (word "global") ∷ match_spec_term (list none) ∷ [])
+    ++ terms_line (mfa_of "f" 0 ∷ pair_term (word "traced") (word "global") ∷ match_spec_term marking ∷ [])
+    ++ terms_line (word "send" ∷ match_spec_term (word "false") ∷ [])
+    ++ terms_line (pid 100 ∷ frame_term 2 ∷ word "return_trace" ∷ [])
 unfolding is_written_bare digits
 settings_of_a_call = refl
 
 -- one that is destroyed has no settings
-destroyed_lines : text_by_view (view (codes "s") (record one_call { commands = creates "s" "t" ∷ sets "s" (word "all") ("call" ∷ []) ∷ destroys "s" ∷ [] }) (0 ∷ 0 ∷ 0 ∷ [])) ≡ line_text (word "destroyed" ∷ [])
+destroyed_lines : text_by_view (view (codes "s") (record one_call { commands = creates "s" "t" ∷ sets "s" (word "all") ("call" ∷ []) ∷ destroys "s" ∷ [] }) (0 ∷ 0 ∷ 0 ∷ [])) ≡ terms_line (word "destroyed" ∷ [])
 unfolding is_written_bare digits
 destroyed_lines = refl

@@ -13,13 +13,13 @@ abbrev pub after_blank : Tree → List ℕ
 after_blank t = 32 ∷ w t
 
 -- the terms with a blank between any two, and a line feed
-abbrev pub line_text : StateLine → List ℕ
-line_text [] = 10 ∷ []
-line_text (t ∷ ts) = w t ++ flat_map after_blank ts ++ 10 ∷ []
+abbrev pub terms_line : StateLine → List ℕ
+terms_line [] = 10 ∷ []
+terms_line (t ∷ ts) = w t ++ flat_map after_blank ts ++ 10 ∷ []
 
 -- the tuple of two terms
-abbrev pub pair : Tree → Tree → Tree
-pair s t = tuple (of_elements (s ∷ t ∷ []))
+abbrev pub pair_term : Tree → Tree → Tree
+pair_term s t = tuple (of_elements (s ∷ t ∷ []))
 
 -- the list of terms
 abbrev pub list_of : List Tree → Tree

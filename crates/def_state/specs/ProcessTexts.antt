@@ -17,14 +17,14 @@ use Rattle.def_script.specs.Program.{Function, Entry, entry_mfa}
 use Rattle.def_node.specs.Process.{Frame, Process, mfa_at}
 use Rattle.def_node.specs.Node.{partner_pids}
 use Rattle.def_outlook.specs.Outlook.{is_waiting}
-use Rattle.def_state.specs.Lines.{StateLine, line_text, pair, list_of}
+use Rattle.def_state.specs.Lines.{StateLine, terms_line, pair_term, list_of}
 use Rattle.def_state.specs.SessionTexts.{frame_term}
 
 -- ---- frames
 
 -- {Variable,Value}
-abbrev pub variable_term : Name × Tree → Tree
-variable_term e = pair (atom e.0) e.1
+abbrev pub binding_term : Name × Tree → Tree
+binding_term e = pair_term (atom e.0) e.1
 
 -- the function with this number, where there is one
 abbrev pub function_terms : List Function → ℕ → List Tree
@@ -32,16 +32,16 @@ function_terms ks i = option_to_list (option_map mfa_term (mfa_at ks i))
 
 -- {step,N}
 abbrev pub step_term : ℕ → Tree
-step_term place = pair (word "step") (int (pos (place + 1)))
+step_term place = pair_term (word "step") (int (pos (place + 1)))
 
 -- the frame of this depth
 abbrev pub frame_line : List Function → Frame → ℕ → StateLine
-frame_line ks f depth = frame_term depth ∷ (function_terms ks f.function ++ step_term f.place ∷ map variable_term f.env)
+frame_line ks f depth = frame_term depth ∷ (function_terms ks f.function ++ step_term f.place ∷ map binding_term f.env)
 
 -- the newest of these frames, and those below it
 abbrev pub frames_text : List Function → List Frame → List ℕ
 frames_text ks [] = []
-frames_text ks (f ∷ fs) = line_text (frame_line ks f (length fs + 1)) ++ frames_text ks fs
+frames_text ks (f ∷ fs) = terms_line (frame_line ks f (length fs + 1)) ++ frames_text ks fs
 
 -- ---- the process
 
@@ -51,21 +51,21 @@ status_term waits = if waits then word "waiting" else word "runnable"
 
 -- {messages,[M, ..]}
 abbrev pub messages_term : List Tree → Tree
-messages_term ts = pair (word "messages") (list_of ts)
+messages_term ts = pair_term (word "messages") (list_of ts)
 
 -- {links,[P, ..]}
 abbrev pub links_term : List Bool → Tree
-links_term ls = pair (word "links") (list_of (map pid (partner_pids FIRST_PID ls)))
+links_term ls = pair_term (word "links") (list_of (map pid (partner_pids FIRST_PID ls)))
 
 -- {signal,R}
 abbrev pub signal_text : Option Tree → List ℕ
 signal_text None = []
-signal_text (Some r) = line_text (pair (word "signal") r ∷ [])
+signal_text (Some r) = terms_line (pair_term (word "signal") r ∷ [])
 
 -- a living process
 abbrev pub living_text : List Function → Process → List ℕ
 living_text ks q =
-    line_text (status_term (is_waiting ks q) ∷ []) ++ frames_text ks q.frames ++ line_text (messages_term q.mailbox ∷ []) ++ line_text (links_term q.links ∷ []) ++ signal_text q.signal
+    terms_line (status_term (is_waiting ks q) ∷ []) ++ frames_text ks q.frames ++ terms_line (messages_term q.mailbox ∷ []) ++ terms_line (links_term q.links ∷ []) ++ signal_text q.signal
 
 -- ---- its header
 
@@ -76,18 +76,18 @@ oldest_function ks (f ∷ []) = function_terms ks f.function
 oldest_function ks (f ∷ g ∷ fs) = oldest_function ks (g ∷ fs)
 
 -- the function that a process began with: that of the call that is still to be made, or of the oldest frame
-abbrev pub first_function : List Function → Process → Option Entry → List Tree
-first_function ks q (Some e) = mfa_term (entry_mfa e) ∷ []
-first_function ks q None = oldest_function ks q.frames
+abbrev pub initial_function : List Function → Process → Option Entry → List Tree
+initial_function ks q (Some e) = mfa_term (entry_mfa e) ∷ []
+initial_function ks q None = oldest_function ks q.frames
 
 -- == process <0.N.0> {M,F,Arity}; one that has exited has no function
 abbrev pub process_header : ℕ → List Tree → List ℕ
-process_header n fs = codes "== process " ++ line_text (pid n ∷ fs)
+process_header n fs = codes "== process " ++ terms_line (pid n ∷ fs)
 
 -- a process that was started with this pid
 abbrev pub process_text : List Function → ℕ → Option Process → List ℕ
-process_text ks n None = process_header n [] ++ line_text (word "exited" ∷ [])
-process_text ks n (Some q) = process_header n (first_function ks q q.entry) ++ living_text ks q
+process_text ks n None = process_header n [] ++ terms_line (word "exited" ∷ [])
+process_text ks n (Some q) = process_header n (initial_function ks q q.entry) ++ living_text ks q
 
 -- each process that was started, from this pid on
 abbrev pub processes_text : List Function → ℕ → List (Option Process) → List ℕ

@@ -25,7 +25,7 @@ use Rattle.def_session.specs.State.{Phase, absent, live, destroyed, MarkKind, fo
 use Rattle.def_run.specs.Round.{pass_from}
 use Rattle.def_run.specs.View.{View}
 use Rattle.def_run.specs.Listing.{state_of}
-use Rattle.def_state.specs.Lines.{StateLine, line_text, pair, list_of}
+use Rattle.def_state.specs.Lines.{StateLine, terms_line, pair_term, list_of}
 use Rattle.def_state.specs.SettingTerms.{SettingTerm, FunctionTerm, commands_to, newest, send_term_of, receive_term_of, function_term_to}
 
 -- ---- flags
@@ -45,12 +45,12 @@ flags_among f (e ∷ es) = flag_where (f e.1) e.0 ++ flags_among f es
 
 -- {flags,[F, ..]}
 abbrev pub flags_term : List Tree → Tree
-flags_term fs = pair (word "flags") (list_of fs)
+flags_term fs = pair_term (word "flags") (list_of fs)
 
 -- what has these flags, where there are some
 abbrev pub flags_text : Tree → List Tree → List ℕ
 flags_text t [] = []
-flags_text t (f ∷ fs) = line_text (t ∷ flags_term (f ∷ fs) ∷ [])
+flags_text t (f ∷ fs) = terms_line (t ∷ flags_term (f ∷ fs) ∷ [])
 
 -- a process
 abbrev pub flags_text_at : Session → ℕ → List ℕ
@@ -68,7 +68,7 @@ new_process_text s = flags_text (word "new_processes") (flags_among s.new_proces
 
 -- {match_spec,T}
 abbrev pub match_spec_term : Tree → Tree
-match_spec_term t = pair (word "match_spec") t
+match_spec_term t = pair_term (word "match_spec") t
 
 -- the kind of a trace pattern
 abbrev pub kind_term : Bool → Tree
@@ -76,13 +76,13 @@ kind_term local = if local then word "local" else word "global"
 
 -- {traced,global} or {traced,local}, and the specification
 abbrev pub pattern_line : Mfa → Bool → Tree → StateLine
-pattern_line f local t = mfa_term f ∷ pair (word "traced") (kind_term local) ∷ match_spec_term t ∷ []
+pattern_line f local t = mfa_term f ∷ pair_term (word "traced") (kind_term local) ∷ match_spec_term t ∷ []
 
 -- a function that is disabled has no line
 abbrev pub function_text_by : Mfa → Bool → Setting → Tree → List ℕ
 function_text_by f local off t = []
-function_text_by f local plain t = line_text (pattern_line f local (list none))
-function_text_by f local (by s) t = line_text (pattern_line f local t)
+function_text_by f local plain t = terms_line (pattern_line f local (list none))
+function_text_by f local (by s) t = terms_line (pattern_line f local t)
 
 -- nor has one that no command has among its own
 abbrev pub function_text_of : Mfa → Option FunctionTerm → List ℕ
@@ -90,18 +90,18 @@ function_text_of f None = []
 function_text_of f (Some g) = function_text_by f g.0.local g.0.setting g.1
 
 -- a function, by the newest accepted command that has it among its own
-abbrev pub function_text : List Command → Mfa × Bool → List ℕ
-function_text cs f = function_text_of f.0 (newest (function_term_to f.0 f.1) cs)
+abbrev pub function_setting_text : List Command → Mfa × Bool → List ℕ
+function_setting_text cs f = function_text_of f.0 (newest (function_term_to f.0 f.1) cs)
 
 -- each function of the script
 abbrev pub function_texts : List Command → List (Mfa × Bool) → List ℕ
-function_texts cs fs = flat_map (function_text cs) fs
+function_texts cs fs = flat_map (function_setting_text cs) fs
 
 -- what is sent or received, where it has a specification or is disabled
 abbrev pub setting_text_by : Tree → Setting → Tree → List ℕ
-setting_text_by name off t = line_text (name ∷ match_spec_term (word "false") ∷ [])
+setting_text_by name off t = terms_line (name ∷ match_spec_term (word "false") ∷ [])
 setting_text_by name plain t = []
-setting_text_by name (by s) t = line_text (name ∷ match_spec_term t ∷ [])
+setting_text_by name (by s) t = terms_line (name ∷ match_spec_term t ∷ [])
 
 -- by the newest accepted command
 abbrev pub setting_text : Tree → Option SettingTerm → List ℕ
@@ -116,7 +116,7 @@ depths = pass_from FRAMES 1
 
 -- {frame,D}
 abbrev pub frame_term : ℕ → Tree
-frame_term depth = pair (word "frame") (int (pos depth))
+frame_term depth = pair_term (word "frame") (int (pos depth))
 
 -- the action that makes such a mark
 abbrev pub mark_term : MarkKind → Tree
@@ -124,13 +124,13 @@ mark_term for_returns = word "return_trace"
 mark_term for_exceptions = word "exception_trace"
 
 -- a frame with a mark
-abbrev pub mark_text : ℕ → ℕ → Option MarkKind → List ℕ
-mark_text n depth None = []
-mark_text n depth (Some k) = line_text (pid n ∷ frame_term depth ∷ mark_term k ∷ [])
+abbrev pub frame_mark_text : ℕ → ℕ → Option MarkKind → List ℕ
+frame_mark_text n depth None = []
+frame_mark_text n depth (Some k) = terms_line (pid n ∷ frame_term depth ∷ mark_term k ∷ [])
 
 -- each frame of a living process
 abbrev pub marks_text_at : Session → ℕ → List ℕ
-marks_text_at s n = if is_alive s.alive n then flat_map (λ depth. mark_text n depth (mark_of s n depth)) depths else []
+marks_text_at s n = if is_alive s.alive n then flat_map (λ depth. frame_mark_text n depth (mark_of s n depth)) depths else []
 
 -- of each process
 abbrev pub mark_texts : Session → List ℕ
@@ -144,13 +144,13 @@ settings_text cs fs = function_texts cs fs ++ setting_text (word "send") (newest
 
 -- a live session after these commands
 abbrev pub live_text : Exports → Session → List Command → List ℕ
-live_text o s cs = line_text (word "live" ∷ []) ++ flag_texts s ++ new_process_text s ++ settings_text cs o.functions ++ mark_texts s
+live_text o s cs = terms_line (word "live" ∷ []) ++ flag_texts s ++ new_process_text s ++ settings_text cs o.functions ++ mark_texts s
 
 -- by its phase
 abbrev pub text_in_phase : Phase → Exports → Session → List Command → List ℕ
-text_in_phase absent o s cs = line_text (word "absent" ∷ [])
+text_in_phase absent o s cs = terms_line (word "absent" ∷ [])
 text_in_phase live o s cs = live_text o s cs
-text_in_phase destroyed o s cs = line_text (word "destroyed" ∷ [])
+text_in_phase destroyed o s cs = terms_line (word "destroyed" ∷ [])
 
 -- a session, as a function of its view alone
 abbrev pub text_by_view : View → List ℕ

@@ -13,10 +13,10 @@ use Rattle.def_run.specs.Run.{HistoryItem, event_item, command_item}
 -- ---- the commands of a session
 
 -- the commands among what a session sees
-abbrev pub commands_in : List HistoryItem → List Command
-commands_in [] = []
-commands_in (event_item e ∷ items) = commands_in items
-commands_in (command_item c ∷ items) = c ∷ commands_in items
+abbrev pub commands_among : List HistoryItem → List Command
+commands_among [] = []
+commands_among (event_item e ∷ items) = commands_among items
+commands_among (command_item c ∷ items) = c ∷ commands_among items
 
 -- those after the first that creates it; a session accepts none before
 abbrev pub after_creation : List Command → List Command
@@ -26,7 +26,7 @@ after_creation (c ∷ cs) = after_creation cs
 
 -- the commands to a session that was created
 abbrev pub commands_to : List HistoryItem → List Command
-commands_to items = after_creation (commands_in items)
+commands_to items = after_creation (commands_among items)
 
 -- the later of two values
 abbrev pub or_else : {X : Type 0} → Option X → Option X → Option X

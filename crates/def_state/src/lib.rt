@@ -3,8 +3,9 @@
 //!
 //! Depends on def_term, def_script, def_spec, def_node, def_outlook, def_session and def_run. Promises, as laws: the
 //! state after N moves is that of the run by the first N picks of the journal, and later picks don't change it; what is
-//! written of a session goes by its view, which no other session's commands change; the state that is written is the one
-//! that the next pick is evaluated with, and its flags and match specifications are read back as those of the session.
+//! written of a session goes by its view, which no other session's commands change; the state that is written is the
+//! one that the next pick is evaluated with, and its flags and match specifications are read back as those of the
+//! session.
 #![tactic(auto)]
 
 ghost use Rattle.def_state.specs.Laws.{StateIsOfTheJournal, LaterPicksLeaveTheState, LastStateIsOfAllPicks};

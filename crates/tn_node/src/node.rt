@@ -247,7 +247,7 @@ impl<A: Allocator + Copy> Node<A> {
     }
 
     /// How many commands of the control list were taken. None of a node that is spent.
-    pub fn taken(&self) -> Option<usize>
+    pub fn commands_taken(&self) -> Option<usize>
         ensures { result ≡ taken_in self.now }
     {
         if self.is_spent {

@@ -36,11 +36,11 @@ IsAccountFlaw a explained.NoMove bytes flawed = IsFlawOf a bytes flawed
 IsAccountFlaw a explained.NoDifference bytes flawed = IsFlawOf a bytes flawed
 
 -- of a run whose state is asked for
-abbrev pub IsStateFlaw : ScheduleView → StateOutcome → List ℕ → Bool → Type 0
-IsStateFlaw a states.State bytes flawed = IsFlawOf a bytes flawed
-IsStateFlaw a (states.Refused r) bytes flawed = IsNoFlaw flawed
-IsStateFlaw a states.NoSession bytes flawed = IsFlawOf a bytes flawed
-IsStateFlaw a states.NoMove bytes flawed = IsFlawOf a bytes flawed
+abbrev pub IsStateTaskFlaw : ScheduleView → StateOutcome → List ℕ → Bool → Type 0
+IsStateTaskFlaw a states.State bytes flawed = IsFlawOf a bytes flawed
+IsStateTaskFlaw a (states.Refused r) bytes flawed = IsNoFlaw flawed
+IsStateTaskFlaw a states.NoSession bytes flawed = IsFlawOf a bytes flawed
+IsStateTaskFlaw a states.NoMove bytes flawed = IsFlawOf a bytes flawed
 
 -- of a run that is drawn
 abbrev pub IsDrawingFlaw : ScheduleView → DrawOutcome → List ℕ → Bool → Type 0
@@ -53,7 +53,7 @@ IsTaskFlaw (listing_task a has_notes quiet) (outcomes.Replay outcome) bytes flaw
 IsTaskFlaw (listing_task a has_notes quiet) outcome bytes flawed = IsNoFlaw flawed
 IsTaskFlaw (account_task a q) (outcomes.Explain outcome) bytes flawed = IsAccountFlaw a outcome bytes flawed
 IsTaskFlaw (account_task a q) outcome bytes flawed = IsNoFlaw flawed
-IsTaskFlaw (state_task a q) (outcomes.State outcome) bytes flawed = IsStateFlaw a outcome bytes flawed
+IsTaskFlaw (state_task a q) (outcomes.State outcome) bytes flawed = IsStateTaskFlaw a outcome bytes flawed
 IsTaskFlaw (state_task a q) outcome bytes flawed = IsNoFlaw flawed
 IsTaskFlaw (drawing_task a format) (outcomes.Draw outcome) bytes flawed = IsDrawingFlaw a outcome bytes flawed
 IsTaskFlaw (drawing_task a format) outcome bytes flawed = IsNoFlaw flawed

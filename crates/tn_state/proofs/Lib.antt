@@ -2,5 +2,5 @@ mod Texts
 mod FlagTexts
 mod OwnCommands
 mod ProcessLemmas
-mod FoundLemmas
+mod NewSettingLemmas
 mod SessionLemmas

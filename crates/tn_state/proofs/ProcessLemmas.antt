@@ -3,7 +3,7 @@ use Rattle.std.proofs.Common.{◌≡◌, ◌∙◌, ℕ, zero, suc, ◌+◌, ◌
 use Rattle.std.proofs.lemmas.List.{take_more, length-take-le, length-map, length-reverse, map-append, reverse-append}
 use Rattle.def_script.specs.Program.{Function}
 use Rattle.def_node.specs.Process.{Frame}
-use Rattle.def_state.specs.Lines.{line_text}
+use Rattle.def_state.specs.Lines.{terms_line}
 use Rattle.def_state.specs.ProcessTexts.{function_terms, frame_line, frames_text, oldest_function}
 
 -- the oldest frame is the last
@@ -42,13 +42,13 @@ module _ {X : Type 0} (ks : List Function) (of : X → Frame) (xs : List X) (d :
       let n : length (reverse (map of (take (d - 1) xs))) ≡ d - 1 = length-reverse (map of (take (d - 1) xs)) ∙ length-map (take (d - 1) xs) of ∙ length-take-le (d - 1) xs below in
       omega (arith, some, n)
 
-  pub one_frame : (a b z : List ℕ) → 0 < d → d ≤ length xs → x ≡ get_or xs (d - 1) x → a ++ frames_text ks (reverse (map of (take d xs))) ≡ z → b ≡ a ++ line_text (frame_line ks (of x) d)
+  pub one_frame : (a b z : List ℕ) → 0 < d → d ≤ length xs → x ≡ get_or xs (d - 1) x → a ++ frames_text ks (reverse (map of (take d xs))) ≡ z → b ≡ a ++ terms_line (frame_line ks (of x) d)
       → b ++ frames_text ks (reverse (map of (take (d - 1) xs))) ≡ z
   one_frame a b z some within is so_far text =
       let rest : List Frame = reverse (map of (take (d - 1) xs)) in
-      let here : List ℕ = line_text (frame_line ks (of x) d) in
+      let here : List ℕ = terms_line (frame_line ks (of x) d) in
       ap (λ y. y ++ frames_text ks rest) text
       ∙ append_assoc a here (frames_text ks rest)
-      ∙ ap (λ n. a ++ (line_text (frame_line ks (of x) n) ++ frames_text ks rest)) (sym (size some within))
+      ∙ ap (λ n. a ++ (terms_line (frame_line ks (of x) n) ++ frames_text ks rest)) (sym (size some within))
       ∙ ap (λ fs. a ++ frames_text ks fs) (sym (front some within is))
       ∙ so_far

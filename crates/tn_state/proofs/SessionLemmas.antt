@@ -15,8 +15,8 @@ use Rattle.def_session.specs.State.{Phase, absent, live, destroyed}
 use Rattle.def_run.specs.Run.{HistoryItem, event_item, command_item, RunState, PickStep, takes_command, goes_to, pick_step_in, pick_step_with, pick_step, history_from, run_state_after, start, events, run_state_of}
 use Rattle.def_run.specs.View.{is_own}
 use Rattle.def_run.specs.Listing.{header_line, state_of}
-use Rattle.def_state.specs.Lines.{line_text}
-use Rattle.def_state.specs.SettingTerms.{after_creation, commands_in, commands_to}
+use Rattle.def_state.specs.Lines.{terms_line}
+use Rattle.def_state.specs.SettingTerms.{after_creation, commands_among, commands_to}
 use Rattle.def_state.specs.SessionTexts.{live_text, text_in_phase}
 use Rattle.def_state.specs.States.{session_text, sessions_text, text_after}
 use Rattle.def_state.specs.ProcessTexts.{processes_text}
@@ -44,18 +44,18 @@ use Rattle.tn_state.specs.Sessions.{AreSlotsAfter, AreTakenOf, IsSlotAfter, view
 
 -- ---- the commands among what was shown
 
-commands_append : (xs ys : List HistoryItem) → commands_in (xs ++ ys) ≡ commands_in xs ++ commands_in ys
+commands_append : (xs ys : List HistoryItem) → commands_among (xs ++ ys) ≡ commands_among xs ++ commands_among ys
 commands_append [] ys = refl
 commands_append (event_item e ∷ xs) ys = commands_append xs ys
 commands_append (command_item c ∷ xs) ys = ap (λ cs. c ∷ cs) (commands_append xs ys)
 
-no_commands : {X : Type 0} (es : List X) (f : X → HistoryItem) → ((e : X) → commands_in (f e ∷ []) ≡ []) → commands_in (map f es) ≡ []
+no_commands : {X : Type 0} (es : List X) (f : X → HistoryItem) → ((e : X) → commands_among (f e ∷ []) ≡ []) → commands_among (map f es) ≡ []
 no_commands [] f none = refl
-no_commands (e ∷ es) f none = commands_append (f e ∷ []) (map f es) ∙ ap (λ cs. cs ++ commands_in (map f es)) (none e) ∙ no_commands es f none
+no_commands (e ∷ es) f none = commands_append (f e ∷ []) (map f es) ∙ ap (λ cs. cs ++ commands_among (map f es)) (none e) ∙ no_commands es f none
 
 -- a step shows the commands that it takes
 abbrev Takes : RunState → PickStep → Type 0
-Takes q t = commands_in t.shown ++ t.after.commands ≡ q.commands
+Takes q t = commands_among t.shown ++ t.after.commands ≡ q.commands
 
 command_takes : (q : RunState) (room : ℕ) (cs : List Command) → q.commands ≡ cs → Takes q (takes_command q room cs)
 command_takes q room [] e = refl
@@ -73,13 +73,13 @@ with_takes : (ks : List Function) (q : RunState) (room pick : ℕ) → Takes q (
 with_takes ks q zero pick = refl
 with_takes ks q (suc room) pick = in_takes ks q room pick
 
-all_taken : (ks : List Function) (q : RunState) (picks : List ℕ) → commands_in (history_from ks q picks) ++ (run_state_after ks q picks).commands ≡ q.commands
+all_taken : (ks : List Function) (q : RunState) (picks : List ℕ) → commands_among (history_from ks q picks) ++ (run_state_after ks q picks).commands ≡ q.commands
 all_taken ks q [] = refl
 all_taken ks q (pick ∷ picks) =
     let t : PickStep = pick_step ks q pick in
     ap (λ cs. cs ++ (run_state_after ks t.after picks).commands) (commands_append t.shown (history_from ks t.after picks))
-    ∙ append_assoc (commands_in t.shown) (commands_in (history_from ks t.after picks)) (run_state_after ks t.after picks).commands
-    ∙ ap (λ cs. commands_in t.shown ++ cs) (all_taken ks t.after picks)
+    ∙ append_assoc (commands_among t.shown) (commands_among (history_from ks t.after picks)) (run_state_after ks t.after picks).commands
+    ∙ ap (λ cs. commands_among t.shown ++ cs) (all_taken ks t.after picks)
     ∙ with_takes ks q q.room pick
 
 front_of : {X : Type 0} (xs ys : List X) → xs ≡ take (length xs) (xs ++ ys)
@@ -87,9 +87,9 @@ front_of [] ys = refl
 front_of (x ∷ xs) ys = ap (λ zs. x ∷ zs) (front_of xs ys)
 
 -- those that a run showed are the first of the program
-pub commands_shown : (p : Program) (picks : List ℕ) → commands_in (events p picks) ≡ take (length p.commands - length (run_state_of p picks).commands) p.commands
+pub commands_shown : (p : Program) (picks : List ℕ) → commands_among (events p picks) ≡ take (length p.commands - length (run_state_of p picks).commands) p.commands
 commands_shown p picks =
-    let cs : List Command = commands_in (events p picks) in
+    let cs : List Command = commands_among (events p picks) in
     let left : List Command = (run_state_of p picks).commands in
     let whole : cs ++ left ≡ p.commands = all_taken p.functions (start p) picks in
     let size : length (cs ++ left) ≡ length cs + length left = length-append cs left in
@@ -98,13 +98,13 @@ commands_shown p picks =
     front_of cs left ∙ ap (λ k. take k (cs ++ left)) n ∙ ap (take (length p.commands - length left)) whole
 
 -- those of one session are the same, before its view and after it
-pub own_shown : (s : Name) (items : List HistoryItem) → commands_in (filter (is_own s) items) ≡ filter (is_command_to s) (commands_in items)
+pub own_shown : (s : Name) (items : List HistoryItem) → commands_among (filter (is_own s) items) ≡ filter (is_command_to s) (commands_among items)
 own_shown s [] = refl
 own_shown s (event_item e ∷ items) = own_shown s items
 own_shown s (command_item c ∷ items) = go (bytes_eq s (session_of c)) (own_shown s items)
   where
-    go : (b : Bool) → commands_in (filter (is_own s) items) ≡ filter (is_command_to s) (commands_in items)
-        → commands_in (if b then command_item c ∷ filter (is_own s) items else filter (is_own s) items) ≡ (if b then c ∷ filter (is_command_to s) (commands_in items) else filter (is_command_to s) (commands_in items))
+    go : (b : Bool) → commands_among (filter (is_own s) items) ≡ filter (is_command_to s) (commands_among items)
+        → commands_among (if b then command_item c ∷ filter (is_own s) items else filter (is_own s) items) ≡ (if b then c ∷ filter (is_command_to s) (commands_among items) else filter (is_command_to s) (commands_among items))
     go true h = ap (λ cs. c ∷ cs) h
     go false h = h
 
@@ -164,11 +164,11 @@ module _ {A : Type 0} (o : Exports) (l : Look A) (cs : List Command) where
   pub live_written : is_live (look_seen l).phase ≡ true → text_in_phase (look_seen l).phase o (look_seen l) cs ≡ live_text o (look_seen l) cs
   live_written h = live_or (look_seen l).phase h
 
-  ended : (p : code.Phase) → is_live (phase_seen p) ≡ false → text_in_phase (phase_seen p) o (look_seen l) cs ≡ line_text (word "destroyed" ∷ [])
+  ended : (p : code.Phase) → is_live (phase_seen p) ≡ false → text_in_phase (phase_seen p) o (look_seen l) cs ≡ terms_line (word "destroyed" ∷ [])
   ended Live h = cc
   ended Destroyed h = refl
 
-  pub destroyed_written : is_live (look_seen l).phase ≡ false → text_in_phase (look_seen l).phase o (look_seen l) cs ≡ line_text (word "destroyed" ∷ [])
+  pub destroyed_written : is_live (look_seen l).phase ≡ false → text_in_phase (look_seen l).phase o (look_seen l) cs ≡ terms_line (word "destroyed" ∷ [])
   destroyed_written h = ended l.state.now.phase h
 
 module _ {A : Type 0} (p : Program) (items : List HistoryItem) (s : Name × Name) (taken : ℕ) (shown : AreTakenOf p taken items) where
@@ -176,10 +176,10 @@ module _ {A : Type 0} (p : Program) (items : List HistoryItem) (s : Name × Name
   pub commands_taken : (cmds : List (CodeCommand A)) → map command_of cmds ≡ take taken p.commands → commands_to (filter (is_own s.0) items) ≡ after_creation (own_commands s.0 cmds)
   commands_taken cmds e = ap after_creation (own_shown s.0 items ∙ ap (filter (is_command_to s.0)) (shown ∙ sym e))
 
-  pub absent_session_written : (slot : Slot A Discard) (a b d : List ℕ) → slot.session ≡ None → IsSlotAfter p items s.0 slot → b ≡ a ++ header_line s.0 s.1 → d ≡ b ++ line_text (word "absent" ∷ []) → d ≡ a ++ session_text s (view_of p items s.0)
+  pub absent_session_written : (slot : Slot A Discard) (a b d : List ℕ) → slot.session ≡ None → IsSlotAfter p items s.0 slot → b ≡ a ++ header_line s.0 s.1 → d ≡ b ++ terms_line (word "absent" ∷ []) → d ≡ a ++ session_text s (view_of p items s.0)
   absent_session_written slot a b d none h header text =
       let before : IsSession (exports_of p).functions h.0 (state_of (view_of p items s.0)) None = subst (IsSession (exports_of p).functions h.0 (state_of (view_of p items s.0))) none h.1 in
-      text ∙ ap (λ x. x ++ line_text (word "absent" ∷ [])) header ∙ append_assoc a (header_line s.0 s.1) (line_text (word "absent" ∷ []))
+      text ∙ ap (λ x. x ++ terms_line (word "absent" ∷ [])) header ∙ append_assoc a (header_line s.0 s.1) (terms_line (word "absent" ∷ []))
       ∙ ap (λ v. a ++ (header_line s.0 s.1 ++ text_in_phase v.phase (exports_of p) v (commands_to (filter (is_own s.0) items)))) (sym before)
 
   pub created_session_written : (slot : Slot A Discard) (session : Session A) (l : Look A) (cmds : List (CodeCommand A)) (a b d : List ℕ) → slot.session ≡ Some session

@@ -3,7 +3,7 @@ use Rattle.std.specs.Prelude.{ℕ, List, [], ◌∷◌, ◌++◌, map}
 use Rattle.def_term.specs.Tree.{Tree}
 use Rattle.def_script.specs.Program as program
 use Rattle.def_node.specs.Process as process
-use Rattle.def_state.specs.ProcessTexts.{first_function, function_terms, step_term, variable_term}
+use Rattle.def_state.specs.ProcessTexts.{initial_function, function_terms, step_term, binding_term}
 use Rattle.tn_script.specs.Views.{functions_of}
 use Rattle.tn_script.specs.declared.form.Function.{Function}
 use Rattle.tn_process.specs.Views.{frame_of, process_seen}
@@ -12,8 +12,8 @@ use Rattle.tn_process.specs.declared.process.Process.{Process}
 
 -- the terms of a frame's line after its depth
 abbrev pub frame_terms : {A : Type 0} → List (Function A) → Frame A → List Tree
-frame_terms ks f = function_terms (functions_of ks) (frame_of f).function ++ step_term (frame_of f).place ∷ map variable_term (frame_of f).env
+frame_terms ks f = function_terms (functions_of ks) (frame_of f).function ++ step_term (frame_of f).place ∷ map binding_term (frame_of f).env
 
 -- the function that a process began with
 abbrev pub first_terms : {A : Type 0} → List (Function A) → Process A → List Tree
-first_terms ks q = first_function (functions_of ks) (process_seen q) (process_seen q).entry
+first_terms ks q = initial_function (functions_of ks) (process_seen q) (process_seen q).entry

@@ -31,24 +31,24 @@ LacksSession None p = ⊥
 LacksSession (Some n) p = is_created p.commands n ≡ false
 
 -- what is reported of a program's run by these picks, and what is written
-abbrev pub IsAnswer : Program → List ℕ → StateQuestion → StateOutcome → List ℕ → Type 0
-IsAnswer p picks q State text = HasSession (asked_name q) p × (q.move_number ≤ length (moves p picks)) × (text ≡ state_text (asked_name q) p picks q.move_number)
-IsAnswer p picks q NoSession text = LacksSession (asked_name q) p × (text ≡ [])
-IsAnswer p picks q NoMove text = HasSession (asked_name q) p × (length (moves p picks) < q.move_number) × (text ≡ [])
-IsAnswer p picks q (Refused r) text = ⊥
+abbrev pub IsStateReport : Program → List ℕ → StateQuestion → StateOutcome → List ℕ → Type 0
+IsStateReport p picks q State text = HasSession (asked_name q) p × (q.move_number ≤ length (moves p picks)) × (text ≡ state_text (asked_name q) p picks q.move_number)
+IsStateReport p picks q NoSession text = LacksSession (asked_name q) p × (text ≡ [])
+IsStateReport p picks q NoMove text = HasSession (asked_name q) p × (length (moves p picks) < q.move_number) × (text ≡ [])
+IsStateReport p picks q (Refused r) text = ⊥
 
 -- the answer for the picks that are asked
-pub record IsAskedAnswer (q : StateRequest) (p : Program) (reported : StateOutcome) (text : List ℕ) : Type 0 where
+pub record IsAskedState (q : StateRequest) (p : Program) (reported : StateOutcome) (text : List ℕ) : Type 0 where
   pub picks : List ℕ
   pub given : ArePicks (schedule_seen q.schedule) p picks
-  pub answer : IsAnswer p picks q.question reported text
+  pub answer : IsStateReport p picks q.question reported text
 
 -- what is written by each outcome: nothing where the moves are refused
 abbrev pub IsShown : StateRequest → Program → StateOutcome → List ℕ → Type 0
-IsShown q p State text = IsAskedAnswer q p State text
+IsShown q p State text = IsAskedState q p State text
 IsShown q p (Refused r) text = IsRefusedRun (schedule_seen q.schedule) p r text
-IsShown q p NoSession text = IsAskedAnswer q p NoSession text
-IsShown q p NoMove text = IsAskedAnswer q p NoMove text
+IsShown q p NoSession text = IsAskedState q p NoSession text
+IsShown q p NoMove text = IsAskedState q p NoMove text
 
 -- the refusal of a text that an outcome is
 abbrev pub state_refusal : StateOutcome → Option Refusal

@@ -12,7 +12,7 @@ use Rattle.def_session.specs.State as definition
 use Rattle.def_run.specs.Run.{HistoryItem}
 use Rattle.def_run.specs.View.{View, is_own}
 use Rattle.def_run.specs.Listing.{state_of}
-use Rattle.def_state.specs.SettingTerms.{commands_in}
+use Rattle.def_state.specs.SettingTerms.{commands_among}
 use Rattle.def_state.specs.States.{asks_for, session_text, text_after}
 use Rattle.tn_program.specs.Views.{program_of}
 use Rattle.tn_program.specs.declared.parts.Program as code
@@ -36,11 +36,11 @@ IsSlotAfter p items s slot = (living : Alive) × IsSession (exports_of p).functi
 
 -- the commands among the items are the first of the program
 abbrev pub AreTakenOf : program.Program → ℕ → List HistoryItem → Type 0
-AreTakenOf p taken items = commands_in items ≡ take taken p.commands
+AreTakenOf p taken items = commands_among items ≡ take taken p.commands
 
 -- a session that is asked for
-abbrev pub text_in : Option Name → program.Program → List HistoryItem → Name × Name → List ℕ
-text_in asked p items s = if asks_for asked s.0 then session_text s (view_of p items s.0) else []
+abbrev pub text_where_asked : Option Name → program.Program → List HistoryItem → Name × Name → List ℕ
+text_where_asked asked p items s = if asks_for asked s.0 then session_text s (view_of p items s.0) else []
 
 -- the program, and the name that is asked for
 abbrev pub program_in : {A : Type 0} → SessionContext A → program.Program
@@ -61,7 +61,7 @@ PutsSession c s slot old new result =
 -- the same, where it is asked for
 abbrev pub PutsAsked : {A : Type 0} → SessionContext A → Name × Name → Slot A Discard → List ℕ → List ℕ → Result (Unit {0}) AllocError → Type 0
 PutsAsked c s slot old new result =
-    (items : List HistoryItem) → IsSlotAfter (program_in c) items s.0 slot → AreTakenOf (program_in c) c.taken items → OnOk result (new ≡ old ++ text_in (asked_in c) (program_in c) items s)
+    (items : List HistoryItem) → IsSlotAfter (program_in c) items s.0 slot → AreTakenOf (program_in c) c.taken items → OnOk result (new ≡ old ++ text_where_asked (asked_in c) (program_in c) items s)
 
 -- the slots are those of the program's sessions, whatever they see
 abbrev pub AreSlotsAfter : {A : Type 0} → program.Program → List HistoryItem → List (Slot A Discard) → Type 0
@@ -69,7 +69,7 @@ AreSlotsAfter p items slots = (living : Alive) × EachPair (IsTracked (λ (k : D
 
 -- the texts of the sessions that are asked for
 abbrev pub texts_in : {A : Type 0} → SessionContext A → List HistoryItem → List (Name × Name) → List ℕ
-texts_in c items ss = flat_map (text_in (asked_in c) (program_in c) items) ss
+texts_in c items ss = flat_map (text_where_asked (asked_in c) (program_in c) items) ss
 
 -- whatever they see, these are appended
 abbrev pub PutsSessions : {A : Type 0} → SessionContext A → List (Slot A Discard) → List ℕ → List ℕ → Result (Unit {0}) AllocError → Type 0

@@ -5,7 +5,7 @@ ghost use Rattle.def_script.specs.Rules.{creates_session, is_created};
 ghost use Rattle.tn_flags.specs.Views.{command_of};
 ghost use Rattle.tn_moves.specs.Plans.{plan_picks};
 ghost use Rattle.tn_program.specs.Views.{program_of};
-ghost use Rattle.tn_state.specs.Requests.{HasSession, IsAnswer, LacksSession};
+ghost use Rattle.tn_state.specs.Requests.{HasSession, IsStateReport, LacksSession};
 
 use crate::request::{StateOutcome, StateQuestion};
 use crate::state::put_state;
@@ -60,7 +60,7 @@ pub fn state_of<A: Allocator + Copy>(
     question: &StateQuestion<'_>,
 ) -> Result<(StateOutcome, Vec<u8, A>), AllocError>
     ensures { let p = program_of program.now in
-        IfOk result (λ r. IsAnswer p (plan_picks p plan.now) question.now r.0 r.1.items) }
+        IfOk result (λ r. IsStateReport p (plan_picks p plan.now) question.now r.0 r.1.items) }
 {
     let mut out = Vec::new(alloc);
     if lacks_session(program, question.session) {

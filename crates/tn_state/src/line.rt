@@ -3,7 +3,7 @@ ghost use Rattle.std.specs.Prelude.{◌≡◌, ◌∷◌, ◌++◌, [], ◌<◌,
 ghost use Rattle.def_term.specs.Atoms.{IsAtomText};
 ghost use Rattle.def_term.specs.Names.{mfa_term};
 ghost use Rattle.def_term.specs.Tree.{atom};
-ghost use Rattle.def_state.specs.Lines.{after_blank, line_text, pair};
+ghost use Rattle.def_state.specs.Lines.{after_blank, pair_term, terms_line};
 ghost use Rattle.def_state.specs.SessionTexts.{frame_term};
 ghost use Rattle.tn_term.specs.Views.{mfa_seen, tree_of};
 
@@ -31,7 +31,7 @@ pub(crate) fn put_line<A: Allocator, B: Allocator>(
     others: &[Term<A>],
     out: &mut Vec<u8, B>,
 ) -> Result<(), AllocError>
-    ensures { OnOk result (out.new.items ≡ out.old.items ++ line_text (tree_of first.now ∷ map tree_of others.now)) }
+    ensures { OnOk result (out.new.items ≡ out.old.items ++ terms_line (tree_of first.now ∷ map tree_of others.now)) }
 {
     write_term(first, out)?;
     put_after_blanks(others, out)?;
@@ -44,7 +44,7 @@ pub(crate) fn put_term<A: Allocator, B: Allocator>(
     term: &Term<A>,
     out: &mut Vec<u8, B>,
 ) -> Result<(), AllocError>
-    ensures { OnOk result (out.new.items ≡ out.old.items ++ line_text (tree_of term.now ∷ [])) }
+    ensures { OnOk result (out.new.items ≡ out.old.items ++ terms_line (tree_of term.now ∷ [])) }
 {
     write_term(term, out)?;
     out.push(b'\n')?;
@@ -58,7 +58,7 @@ pub(crate) fn pair<A: Allocator + Copy>(
     term: Term<A>,
 ) -> Result<Term<A>, AllocError>
     requires { IsAtomText word.now }
-    ensures { IfOk result (λ t. tree_of t ≡ pair (atom word.now) (tree_of term)) }
+    ensures { IfOk result (λ t. tree_of t ≡ pair_term (atom word.now) (tree_of term)) }
 {
     let first = Term::word(alloc, word)?;
     let mut items = Vec::with_capacity(alloc, 2)?;

@@ -2,7 +2,7 @@
 ghost use Rattle.std.specs.Prelude.{◌≡◌, ◌++◌, OnOk, IfOk, flat_map};
 ghost use Rattle.std.specs.Option.{option_map};
 ghost use Rattle.def_session.specs.State as definition;
-ghost use Rattle.def_state.specs.SessionTexts.{depths, mark_term, mark_text, marks_text_at, mark_texts};
+ghost use Rattle.def_state.specs.SessionTexts.{depths, mark_term, frame_mark_text, marks_text_at, mark_texts};
 ghost use Rattle.tn_session.specs.Looks.{look_seen};
 ghost use Rattle.tn_session.specs.Views.{mark_kind_seen};
 ghost use Rattle.tn_term.specs.Views.{tree_of};
@@ -30,7 +30,7 @@ fn put_mark<A: Allocator + Copy>(
     kind: Option<Kind>,
     out: &mut Vec<u8, A>,
 ) -> Result<(), AllocError>
-    ensures { OnOk result (out.new.items ≡ out.old.items ++ mark_text pid depth (option_map mark_kind_seen kind)) }
+    ensures { OnOk result (out.new.items ≡ out.old.items ++ frame_mark_text pid depth (option_map mark_kind_seen kind)) }
 {
     let Some(kind) = kind else {
         return Ok(());
@@ -50,7 +50,7 @@ fn put_marks_of<A: Allocator + Copy>(
     out: &mut Vec<u8, A>,
 ) -> Result<(), AllocError>
     ensures { OnOk result (out.new.items ≡ out.old.items ++
-        flat_map (λ d. mark_text pid d (definition.mark_of (look_seen look.now) pid d)) depths) }
+        flat_map (λ d. frame_mark_text pid d (definition.mark_of (look_seen look.now) pid d)) depths) }
 {
     for depth in 1..65u32 {
         put_mark(alloc, pid, depth, look.mark_of(pid, depth as usize), out)?;

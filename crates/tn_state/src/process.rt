@@ -4,8 +4,8 @@ ghost use Rattle.std.specs.Option.{option_map};
 ghost use Rattle.def_node.specs.Node.{partner_pids};
 ghost use Rattle.def_outlook.specs.Outlook.{is_waiting};
 ghost use Rattle.def_script.specs.Program.{entry_mfa};
-ghost use Rattle.def_state.specs.Lines.{line_text};
-ghost use Rattle.def_state.specs.ProcessTexts.{variable_term, function_terms, step_term, frame_line, frames_text};
+ghost use Rattle.def_state.specs.Lines.{terms_line};
+ghost use Rattle.def_state.specs.ProcessTexts.{binding_term, function_terms, step_term, frame_line, frames_text};
 ghost use Rattle.def_state.specs.ProcessTexts.{status_term, messages_term, links_term, signal_text, living_text};
 ghost use Rattle.def_state.specs.ProcessTexts.{process_header, process_text, processes_text};
 ghost use Rattle.def_term.specs.Tree.{pid};
@@ -29,7 +29,7 @@ fn variable_term<A: Allocator + Copy>(
     alloc: A,
     variable: &Binding<A>,
 ) -> Result<Term<A>, AllocError>
-    ensures { IfOk result (λ t. tree_of t ≡ variable_term (name_and_term variable.now)) }
+    ensures { IfOk result (λ t. tree_of t ≡ binding_term (name_and_term variable.now)) }
 {
     let mut items = Vec::with_capacity(alloc, 2)?;
     items.push(Term::Atom(variable.name().copy_into(alloc)?))?;
@@ -44,7 +44,7 @@ fn push_variables<A: Allocator + Copy>(
     terms: &mut Vec<Term<A>, A>,
 ) -> Result<(), AllocError>
     ensures { OnOk result (map tree_of terms.new.items ≡ map tree_of terms.old.items ++
-        map variable_term (map name_and_term variables.now)) }
+        map binding_term (map name_and_term variables.now)) }
 {
     for variable in variables {
         terms.push(variable_term(alloc, variable)?)?;
@@ -103,7 +103,7 @@ fn put_frame<A: Allocator + Copy>(
     out: &mut Vec<u8, A>,
 ) -> Result<(), AllocError>
     ensures { OnOk result (out.new.items ≡ out.old.items ++
-        line_text (frame_line (functions_of functions.now) (frame_of frame.now) depth)) }
+        terms_line (frame_line (functions_of functions.now) (frame_of frame.now) depth)) }
 {
     let Ok(depth) = u32::try_from(depth) else {
         return Err(AllocError);
@@ -135,7 +135,7 @@ fn put_frames<A: Allocator + Copy>(
 /// Appends whether a process waits.
 #[tactic(auto, unfolding(def_term::specs::Text::is_written_bare))]
 fn put_status<A: Allocator>(waits: bool, out: &mut Vec<u8, A>) -> Result<(), AllocError>
-    ensures { OnOk result (out.new.items ≡ out.old.items ++ line_text (status_term waits ∷ [])) }
+    ensures { OnOk result (out.new.items ≡ out.old.items ++ terms_line (status_term waits ∷ [])) }
 {
     if waits {
         out.extend_from_slice(b"waiting\n")
@@ -177,7 +177,8 @@ fn put_signal<A: Allocator + Copy>(
     signal: Option<&Term<A>>,
     out: &mut Vec<u8, A>,
 ) -> Result<(), AllocError>
-    ensures { OnOk result (out.new.items ≡ out.old.items ++ signal_text (option_map (λ t. tree_of t.now) signal.entry)) }
+    ensures { OnOk result (out.new.items ≡ out.old.items ++
+        signal_text (option_map (λ t. tree_of t.now) signal.entry)) }
 {
     match signal {
         Some(reason) => {
@@ -256,7 +257,7 @@ fn put_header<A: Allocator + Copy>(
 /// Appends that a process has exited.
 #[tactic(auto, unfolding(def_term::specs::Text::is_written_bare))]
 fn put_exited<A: Allocator>(out: &mut Vec<u8, A>) -> Result<(), AllocError>
-    ensures { OnOk result (out.new.items ≡ out.old.items ++ line_text (word "exited" ∷ [])) }
+    ensures { OnOk result (out.new.items ≡ out.old.items ++ terms_line (word "exited" ∷ [])) }
 {
     out.extend_from_slice(b"exited\n")
 }

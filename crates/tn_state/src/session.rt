@@ -3,7 +3,7 @@ ghost use Rattle.std.specs.Prelude.{◌≡◌, ◌∷◌, ◌++◌, [], OnOk};
 ghost use Rattle.std.specs.Option.{option_map};
 ghost use Rattle.def_run.specs.Listing.{header_line};
 ghost use Rattle.def_script.specs.Exports.{exports_of};
-ghost use Rattle.def_state.specs.Lines.{line_text};
+ghost use Rattle.def_state.specs.Lines.{terms_line};
 ghost use Rattle.def_state.specs.SettingTerms.{after_creation};
 ghost use Rattle.def_state.specs.SessionTexts.{live_text, text_in_phase};
 ghost use Rattle.def_state.specs.States.{asks_for};
@@ -44,7 +44,7 @@ fn put_header<A: Allocator, B: Allocator>(
 /// Appends that a session isn't created yet.
 #[tactic(auto, unfolding(def_term::specs::Text::is_written_bare))]
 fn put_absent<B: Allocator>(out: &mut Vec<u8, B>) -> Result<(), AllocError>
-    ensures { OnOk result (out.new.items ≡ out.old.items ++ line_text (word "absent" ∷ [])) }
+    ensures { OnOk result (out.new.items ≡ out.old.items ++ terms_line (word "absent" ∷ [])) }
 {
     out.extend_from_slice(b"absent\n")
 }
@@ -52,7 +52,7 @@ fn put_absent<B: Allocator>(out: &mut Vec<u8, B>) -> Result<(), AllocError>
 /// Appends that a session was destroyed.
 #[tactic(auto, unfolding(def_term::specs::Text::is_written_bare))]
 fn put_destroyed<B: Allocator>(out: &mut Vec<u8, B>) -> Result<(), AllocError>
-    ensures { OnOk result (out.new.items ≡ out.old.items ++ line_text (word "destroyed" ∷ [])) }
+    ensures { OnOk result (out.new.items ≡ out.old.items ++ terms_line (word "destroyed" ∷ [])) }
 {
     out.extend_from_slice(b"destroyed\n")
 }

@@ -5,8 +5,8 @@ ghost use Rattle.def_script.specs.Exports.{visible};
 ghost use Rattle.def_session.specs.Settings.{setting_of};
 ghost use Rattle.def_state.specs.SettingTerms as definition;
 ghost use Rattle.def_state.specs.SettingTerms.{send_term_of, receive_term_of};
-ghost use Rattle.def_state.specs.Lines.{line_text};
-ghost use Rattle.def_state.specs.SessionTexts.{match_spec_term, pattern_line, function_text, function_texts};
+ghost use Rattle.def_state.specs.Lines.{terms_line};
+ghost use Rattle.def_state.specs.SessionTexts.{match_spec_term, pattern_line, function_setting_text, function_texts};
 ghost use Rattle.def_state.specs.SessionTexts.{setting_text, settings_text};
 ghost use Rattle.def_term.specs.Atoms.{IsAtomText};
 ghost use Rattle.def_term.specs.Names.{word};
@@ -17,8 +17,9 @@ ghost use Rattle.tn_script.specs.Views.{function_of, functions_of};
 ghost use Rattle.tn_spec.specs.Views.{dialect_of};
 ghost use Rattle.tn_term.specs.Views.{mfa_seen, tree_of, trees_of};
 ghost use Rattle.tn_state.specs.Commands.{own_commands};
-ghost use Rattle.tn_state.specs.Found.{found_seen, kind_read, setting_found, function_found, subject_found, found_after};
-ghost use Rattle.tn_state.specs.Found.{traced_term, text_of_function, text_of_setting, visible_function};
+ghost use Rattle.tn_state.specs.NewSettings.{new_setting_seen, kind_read, new_setting_by, new_setting_after};
+ghost use Rattle.tn_state.specs.NewSettings.{new_function_setting, new_subject_setting};
+ghost use Rattle.tn_state.specs.NewSettings.{traced_term, text_of_function, text_of_setting, visible_function};
 
 use crate::commands::is_to;
 use crate::line::{mfa_term, pair, put_line};
@@ -43,7 +44,7 @@ pub(crate) enum Kind {
 
 /// What a command sets, with its term; `local` is that of a function command.
 #[derive_where(Clone, Copy)]
-pub(crate) struct Found<'a, A: Allocator> {
+pub(crate) struct NewSetting<'a, A: Allocator> {
     pub local: bool,
     pub kind: Kind,
     pub term: &'a Term<A>,
@@ -98,30 +99,30 @@ fn kind_of<A: Allocator + Copy>(
 }
 
 /// What the specification of a command sets; None where it is refused.
-fn found<'a, A: Allocator + Copy>(
+fn new_setting<'a, A: Allocator + Copy>(
     alloc: A,
     term: &'a Term<A>,
     dialect: Dialect,
     local: bool,
-) -> Result<Option<Found<'a, A>>, AllocError>
-    ensures { IfOk result (λ r. option_map found_seen r ≡
-        setting_found local (tree_of term.now) (setting_of (dialect_of dialect) (tree_of term.now))) }
+) -> Result<Option<NewSetting<'a, A>>, AllocError>
+    ensures { IfOk result (λ r. option_map new_setting_seen r ≡
+        new_setting_by local (tree_of term.now) (setting_of (dialect_of dialect) (tree_of term.now))) }
 {
     match kind_of(alloc, term, dialect)? {
-        Some(kind) => Ok(Some(Found { local, kind, term })),
+        Some(kind) => Ok(Some(NewSetting { local, kind, term })),
         None => Ok(None),
     }
 }
 
 /// What a function command sets for a function; None where it is refused, or hasn't the function among its own.
-fn function_found<'a, A: Allocator + Copy>(
+fn new_function_setting<'a, A: Allocator + Copy>(
     alloc: A,
     command: &'a Command<A>,
     mfa: &Mfa<A>,
     exported: bool,
-) -> Result<Option<Found<'a, A>>, AllocError>
-    ensures { IfOk result (λ r. option_map found_seen r ≡
-        function_found (mfa_seen mfa.now) exported (command_of command.now)) }
+) -> Result<Option<NewSetting<'a, A>>, AllocError>
+    ensures { IfOk result (λ r. option_map new_setting_seen r ≡
+        new_function_setting (mfa_seen mfa.now) exported (command_of command.now)) }
 {
     let Command::Function {
         mfa: pattern,
@@ -139,34 +140,34 @@ fn function_found<'a, A: Allocator + Copy>(
         return Ok(None);
     };
     if covered.has(mfa) && (local || exported) {
-        found(alloc, specification, Dialect::Call, local)
+        new_setting(alloc, specification, Dialect::Call, local)
     } else {
         Ok(None)
     }
 }
 
 /// What a command sets of the subject; None where it is refused, or of another subject.
-fn subject_found<'a, A: Allocator + Copy>(
+fn new_subject_setting<'a, A: Allocator + Copy>(
     alloc: A,
     command: &'a Command<A>,
     subject: &Subject<'_, A>,
-) -> Result<Option<Found<'a, A>>, AllocError>
-    ensures { IfOk result (λ r. option_map found_seen r ≡ subject_found subject.now (command_of command.now)) }
+) -> Result<Option<NewSetting<'a, A>>, AllocError>
+    ensures { IfOk result (λ r. option_map new_setting_seen r ≡ new_subject_setting subject.now (command_of command.now)) }
 {
     match subject {
         Subject::Sends => match command {
             Command::Send { specification, .. } => {
-                found(alloc, specification, Dialect::Send, false)
+                new_setting(alloc, specification, Dialect::Send, false)
             }
             _ => Ok(None),
         },
         Subject::Receives => match command {
             Command::Recv { specification, .. } => {
-                found(alloc, specification, Dialect::Recv, false)
+                new_setting(alloc, specification, Dialect::Recv, false)
             }
             _ => Ok(None),
         },
-        Subject::Function { mfa, exported } => function_found(alloc, command, mfa, *exported),
+        Subject::Function { mfa, exported } => new_function_setting(alloc, command, mfa, *exported),
     }
 }
 
@@ -176,16 +177,16 @@ fn later<'a, A: Allocator + Copy>(
     command: &'a Command<A>,
     name: &Atom<A>,
     subject: &Subject<'_, A>,
-    before: Option<Found<'a, A>>,
-) -> Result<Option<Found<'a, A>>, AllocError>
-    ensures { IfOk result (λ r. option_map found_seen r ≡
-        found_after name.now subject.now (command_of command.now) (option_map found_seen before.entry)) }
+    before: Option<NewSetting<'a, A>>,
+) -> Result<Option<NewSetting<'a, A>>, AllocError>
+    ensures { IfOk result (λ r. option_map new_setting_seen r ≡
+        new_setting_after name.now subject.now (command_of command.now) (option_map new_setting_seen before.entry)) }
 {
     if !is_to(command, name) {
         return Ok(before);
     }
-    match subject_found(alloc, command, subject)? {
-        Some(found) => Ok(Some(found)),
+    match new_subject_setting(alloc, command, subject)? {
+        Some(setting) => Ok(Some(setting)),
         None => Ok(before),
     }
 }
@@ -196,9 +197,9 @@ fn newest<'a, A: Allocator + Copy>(
     commands: &'a [Command<A>],
     name: &Atom<A>,
     subject: &Subject<'_, A>,
-) -> Result<Option<Found<'a, A>>, AllocError>
-    ensures { IfOk result (λ r. option_map found_seen r ≡
-        definition.newest (subject_found subject.now) (own_commands name.now commands.now)) }
+) -> Result<Option<NewSetting<'a, A>>, AllocError>
+    ensures { IfOk result (λ r. option_map new_setting_seen r ≡
+        definition.newest (new_subject_setting subject.now) (own_commands name.now commands.now)) }
 {
     let mut newest = None;
     for command in commands {
@@ -234,7 +235,7 @@ fn put_pattern<A: Allocator + Copy>(
     out: &mut Vec<u8, A>,
 ) -> Result<(), AllocError>
     ensures { OnOk result (out.new.items ≡ out.old.items ++
-        line_text (pattern_line (mfa_seen mfa) local (tree_of spec))) }
+        terms_line (pattern_line (mfa_seen mfa) local (tree_of spec))) }
 {
     let mut others = Vec::new(alloc);
     others.push(traced_term(alloc, local)?)?;
@@ -244,22 +245,22 @@ fn put_pattern<A: Allocator + Copy>(
 }
 
 /// Appends the line of a function, where it is traced.
-fn put_function_found<A: Allocator + Copy>(
+fn put_function_setting<A: Allocator + Copy>(
     alloc: A,
     mfa: Mfa<A>,
-    found: Option<Found<'_, A>>,
+    setting: Option<NewSetting<'_, A>>,
     out: &mut Vec<u8, A>,
 ) -> Result<(), AllocError>
     ensures { OnOk result (out.new.items ≡ out.old.items ++
-        text_of_function (mfa_seen mfa) (option_map found_seen found.entry)) }
+        text_of_function (mfa_seen mfa) (option_map new_setting_seen setting.entry)) }
 {
-    let Some(found) = found else {
+    let Some(setting) = setting else {
         return Ok(());
     };
-    match found.kind {
+    match setting.kind {
         Kind::Off => Ok(()),
-        Kind::Plain => put_pattern(alloc, mfa, found.local, Term::List(Vec::new(alloc)), out),
-        Kind::Spec => put_pattern(alloc, mfa, found.local, found.term.copy_into(alloc)?, out),
+        Kind::Plain => put_pattern(alloc, mfa, setting.local, Term::List(Vec::new(alloc)), out),
+        Kind::Spec => put_pattern(alloc, mfa, setting.local, setting.term.copy_into(alloc)?, out),
     }
 }
 
@@ -272,15 +273,15 @@ fn put_function<A: Allocator + Copy>(
     out: &mut Vec<u8, A>,
 ) -> Result<(), AllocError>
     ensures { OnOk result (out.new.items ≡ out.old.items ++
-        function_text (own_commands name.now commands.now) (visible_function function.now)) }
+        function_setting_text (own_commands name.now commands.now) (visible_function function.now)) }
 {
     let mfa = function_mfa(alloc, function)?;
     let subject = Subject::Function {
         mfa: &mfa,
         exported: function.exported,
     };
-    let found = newest(alloc, commands, name, &subject)?;
-    put_function_found(alloc, mfa, found, out)
+    let setting = newest(alloc, commands, name, &subject)?;
+    put_function_setting(alloc, mfa, setting, out)
 }
 
 /// Appends the line of each function of the script that is traced.
@@ -309,7 +310,7 @@ fn put_setting_term<A: Allocator + Copy>(
 ) -> Result<(), AllocError>
     requires { IsAtomText word.now }
     ensures { OnOk result (out.new.items ≡ out.old.items ++
-        line_text (atom word.now ∷ match_spec_term (tree_of spec) ∷ [])) }
+        terms_line (atom word.now ∷ match_spec_term (tree_of spec) ∷ [])) }
 {
     let mut others = Vec::new(alloc);
     others.push(match_spec_term(alloc, spec)?)?;
@@ -321,20 +322,20 @@ fn put_setting_term<A: Allocator + Copy>(
 fn put_setting<A: Allocator + Copy>(
     alloc: A,
     word: &str,
-    found: Option<Found<'_, A>>,
+    setting: Option<NewSetting<'_, A>>,
     out: &mut Vec<u8, A>,
 ) -> Result<(), AllocError>
     requires { IsAtomText word.now }
     ensures { OnOk result (out.new.items ≡ out.old.items ++
-        text_of_setting (atom word.now) (option_map found_seen found.entry)) }
+        text_of_setting (atom word.now) (option_map new_setting_seen setting.entry)) }
 {
-    let Some(found) = found else {
+    let Some(setting) = setting else {
         return Ok(());
     };
-    match found.kind {
+    match setting.kind {
         Kind::Off => put_setting_term(alloc, word, Term::word(alloc, "false")?, out),
         Kind::Plain => Ok(()),
-        Kind::Spec => put_setting_term(alloc, word, found.term.copy_into(alloc)?, out),
+        Kind::Spec => put_setting_term(alloc, word, setting.term.copy_into(alloc)?, out),
     }
 }
 
@@ -348,8 +349,8 @@ fn put_sends<A: Allocator + Copy>(
     ensures { OnOk result (out.new.items ≡ out.old.items ++
         setting_text (word "send") (definition.newest send_term_of (own_commands name.now commands.now))) }
 {
-    let found = newest(alloc, commands, name, &Subject::Sends)?;
-    put_setting(alloc, "send", found, out)
+    let setting = newest(alloc, commands, name, &Subject::Sends)?;
+    put_setting(alloc, "send", setting, out)
 }
 
 /// Appends the setting of receives, where it has a specification or is disabled.
@@ -362,8 +363,8 @@ fn put_receives<A: Allocator + Copy>(
     ensures { OnOk result (out.new.items ≡ out.old.items ++
         setting_text (word "receive") (definition.newest receive_term_of (own_commands name.now commands.now))) }
 {
-    let found = newest(alloc, commands, name, &Subject::Receives)?;
-    put_setting(alloc, "receive", found, out)
+    let setting = newest(alloc, commands, name, &Subject::Receives)?;
+    put_setting(alloc, "receive", setting, out)
 }
 
 /// Appends the settings of functions, of sends and of receives.

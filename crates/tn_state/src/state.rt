@@ -27,7 +27,7 @@ fn put_run<A: Allocator + Copy>(
     let Some(processes) = node.processes() else {
         return Err(AllocError);
     };
-    let Some(taken) = node.taken() else {
+    let Some(taken) = node.commands_taken() else {
         return Err(AllocError);
     };
     if taken > program.commands().len() || processes.len() > 64 {
