@@ -88,7 +88,10 @@ pub fn processes<'a, A: Allocator + Copy>(
 }
 
 /// `tn_node::Node::commands_taken` has one answer.
-pub fn commands_taken<A: Allocator + Copy>(one: &Node<A>, other: &Node<A>) -> (Option<usize>, Option<usize>)
+pub fn commands_taken<A: Allocator + Copy>(
+    one: &Node<A>,
+    other: &Node<A>,
+) -> (Option<usize>, Option<usize>)
     requires { one.now ≡ other.now }
     ensures { result.0 ≡ result.1 }
 {

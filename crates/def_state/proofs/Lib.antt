@@ -1,4 +1,4 @@
-mod Journals
+pub mod Journals
 mod Flags
 mod Settings
 mod Terms

@@ -46,5 +46,5 @@ pub(crate) fn since_creation<'a, A: Allocator>(
             return &commands[place + 1..];
         }
     }
-    &commands[commands.len()..]
+    &commands[..0]
 }

@@ -9,3 +9,13 @@ pub loop-place-preserved : goal.loop-place-preserved
 loop-place-preserved g c =
     let l = c.loop-place in
     sym (creation_later c.args.name.now c.args.commands.now l.place c.index-commands-place.result c.loop-place-test.true c.index-commands-place.is (sym c.creates.ensures ∙ c.if-creates.false)) ∙ l.invariant
+
+pub returns-then-creates : goal.returns-then-creates
+returns-then-creates g c =
+    let l = c.loop-place in
+    sym (creation_here c.args.name.now c.args.commands.now l.place c.index-commands-place.result c.loop-place-test.true c.index-commands-place.is (sym c.creates.ensures ∙ c.if-creates.true)) ∙ l.invariant
+
+pub returns : goal.returns
+returns g c =
+    let l = c.loop-place in
+    sym (no_creation c.args.name.now c.args.commands.now l.place c.loop-place-test.false) ∙ l.invariant
