@@ -4,3 +4,4 @@ mod OwnCommands
 mod ProcessLemmas
 mod NewSettingLemmas
 mod SessionLemmas
+mod Fronts
