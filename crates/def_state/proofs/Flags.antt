@@ -1,6 +1,6 @@
 -- The flags that are written are read back.
-use Rattle.std.proofs.Common.{◌≡◌, ◌∙◌, Bool, true, false, ◌&&◌, ◌||◌, if◌then◌else◌, List, [], ◌∷◌, ◌++◌, Option, Some, None, refl, ap}
-use Rattle.def_term.specs.Tree.{Tree, Trees, atom, of_elements}
+use Rattle.std.proofs.Common.{◌≡◌, ◌∙◌, Bool, true, false, ◌&&◌, ◌||◌, if◌then◌else◌, List, [], ◌∷◌, ◌++◌, Some, refl, ap}
+use Rattle.def_term.specs.Tree.{atom, of_elements}
 use Rattle.def_term.specs.Names.{Name}
 use Rattle.def_spec.specs.Flags.{Flag, Flags, no_flags, only, union, flag_named, and_flag, flags_named, flags_by_name, send_flag, receive_flag, call_flag, procs_flag, silent_flag, arity_flag, set_on_spawn, set_on_first_spawn, set_on_link, set_on_first_link}
 use Rattle.def_state.specs.SessionTexts.{flag_where, flags_among}

@@ -8,14 +8,14 @@ use Rattle.def_script.specs.Program.{Function, Program}
 use Rattle.def_script.specs.Exports.{exports_of}
 use Rattle.def_script.specs.Script.{creations}
 use Rattle.def_session.specs.State.{absent_session}
-use Rattle.def_run.specs.Run.{HistoryItem, RunState, PickStep, stays, pick_step, history_from, moves_from, run_state_after, start, events, moves, run_state_of, pick_step_after}
-use Rattle.def_run.specs.View.{is_own, View, view}
-use Rattle.def_run.specs.Listing.{messages_from, session_after}
+use Rattle.def_run.specs.Run.{HistoryItem, RunState, PickStep, stays, pick_step, moves_from, start, events, moves, run_state_of, pick_step_after}
+use Rattle.def_run.specs.View.{is_own}
+use Rattle.def_run.specs.Listing.{messages_from}
 use Rattle.def_run.proofs.Appends.{shown-append, moves-append, own-append, messages-append}
-use Rattle.def_run.proofs.Replay.{pick_kept, moves_again, place_again, events_again}
+use Rattle.def_run.proofs.Replay.{pick_kept, place_again, events_again}
 use Rattle.def_run.proofs.StruckCommands.{struck_view}
 use Rattle.def_state.specs.ProcessTexts.{processes_text}
-use Rattle.def_state.specs.States.{session_text, asks_for, text_after, state_text}
+use Rattle.def_state.specs.States.{session_text, asks_for, text_after}
 use Rattle.def_state.specs.Laws.{StateIsOfTheJournal, LaterPicksLeaveTheState, LastStateIsOfAllPicks, SessionGoesByTheView, SessionIsIsolated, NextMessagesGoByTheState}
 
 -- ---- a beginning of a journal moves whole

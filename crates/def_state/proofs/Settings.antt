@@ -1,7 +1,6 @@
 -- What is written of settings is what calls, sends and receives are evaluated with.
-use Rattle.std.proofs.Common.{◌≡◌, ◌∙◌, ℕ, Bool, true, false, ◌||◌, if◌then◌else◌, List, [], ◌∷◌, Option, Some, None, Ok, Err, refl, sym, ap}
+use Rattle.std.proofs.Common.{◌≡◌, ◌∙◌, ℕ, Bool, true, false, ◌||◌, if◌then◌else◌, List, [], ◌∷◌, Option, Some, None, Ok, Err, refl, ap}
 use Rattle.def_term.specs.Alive.{is_alive}
-use Rattle.def_term.specs.Names.{word}
 use Rattle.def_term.specs.Tree.{Tree}
 use Rattle.def_script.specs.Exports.{Exports}
 use Rattle.def_script.specs.Program.{Command, create, destroy, set_processes, set_function, set_send, set_receive}
@@ -10,16 +9,16 @@ use Rattle.def_spec.specs.Flags.{Flags, flags_listed}
 use Rattle.def_spec.specs.Expressions.{Effect, for_calls, for_sends, for_receives}
 use Rattle.def_spec.specs.Reading.{Reads}
 use Rattle.def_session.specs.Settings.{FunctionPattern, Setting, off, FunctionSetting, setting_of, trace_pattern_of, options_of, has_among, setting_for}
-use Rattle.def_session.specs.State.{Phase, absent, live, destroyed, MarkKind, Session, absent_session, new_session}
+use Rattle.def_session.specs.State.{Phase, absent, live, destroyed, MarkKind, Session, absent_session}
 use Rattle.def_session.specs.Session.{inherit, effects_of, all_affected, mark_asked, mark_frame, finish, reported_for, reported_in, event_reported}
 use Rattle.def_session.specs.Messages.{process_of}
 use Rattle.def_session.specs.Commands.{number_term, refuse, Procs, one_process, existing, new_processes, all_processes, procs_of, how_of, flags_set, flags_set_if, function_set, function_set_if, send_set, receive_set, done_live, done_absent, done_in, command_done}
 use Rattle.def_session.proofs.Life.{event_keeps_the_phase}
 use Rattle.def_run.specs.Run.{HistoryItem, event_item, command_item}
 use Rattle.def_run.specs.View.{View}
-use Rattle.def_run.specs.Listing.{session_after, state_of}
+use Rattle.def_run.specs.Listing.{session_after}
 use Rattle.def_run.proofs.DestroyedSessions.{still_destroyed}
-use Rattle.def_state.specs.SettingTerms.{SettingTerm, FunctionTerm, commands_among, after_creation, commands_to, or_else, newest_from, newest, setting_term_by, send_term_of, receive_term_of, function_term_for, function_term_by, term_among, function_term_of, function_term_to}
+use Rattle.def_state.specs.SettingTerms.{SettingTerm, FunctionTerm, commands_among, after_creation, or_else, newest_from, newest, setting_term_by, send_term_of, receive_term_of, function_term_for, function_term_by, term_among, function_term_to}
 use Rattle.def_state.specs.Laws.{setting_by, setting_or_plain, FunctionTermsAreTheSettings, OtherTermsAreTheSettings}
 
 -- ---- the settings of a session

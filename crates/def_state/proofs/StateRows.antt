@@ -1,11 +1,11 @@
 -- Worked rows, computed: the states of small runs.
-use Rattle.std.proofs.Common.{◌≡◌, ℕ, List, [], ◌∷◌, ◌++◌, true, codes, refl, Some, None}
+use Rattle.std.proofs.Common.{◌≡◌, [], ◌∷◌, ◌++◌, codes, refl, Some, None}
 use Rattle.std.specs.Fmt.{digits}
 use Rattle.def_term.specs.Names.{word}
 use Rattle.def_term.specs.Text.{is_written_bare}
 use Rattle.def_term.specs.Tree.{Tree, pid, list, none}
-use Rattle.def_script.specs.Program.{Command, Program, send, receive, link, set_function, set_send, set_receive}
-use Rattle.def_run.proofs.Samples.{number, braces, brackets, words, function, entry, call_named, program, creates, destroys, sets, mfa_of}
+use Rattle.def_script.specs.Program.{Command, Program, send, receive, set_function, set_send, set_receive}
+use Rattle.def_run.proofs.Samples.{braces, brackets, function, entry, call_named, program, creates, destroys, sets, mfa_of}
 use Rattle.def_run.specs.View.{view}
 use Rattle.def_state.specs.Lines.{terms_line, pair_term}
 use Rattle.def_state.specs.SessionTexts.{flags_term, match_spec_term, frame_term, text_by_view}

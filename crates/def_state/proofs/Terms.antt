@@ -1,10 +1,10 @@
 -- The term that is written of a setting reads as it.
-use Rattle.std.proofs.Common.{◌≡◌, ◌∙◌, Bool, true, false, Option, Some, None, Ok, Err, refl, sym, ap}
+use Rattle.std.proofs.Common.{◌≡◌, ◌∙◌, Bool, Option, Some, None, Ok, Err, refl, sym, ap}
 use Rattle.def_term.specs.Tree.{Tree}
 use Rattle.def_script.specs.Program.{Command, create, destroy, set_processes, set_function, set_send, set_receive}
 use Rattle.def_spec.specs.Expressions.{for_calls, for_sends, for_receives}
 use Rattle.def_spec.specs.Reading.{Reads}
-use Rattle.def_session.specs.Settings.{FunctionPattern, Setting, FunctionSetting, setting_of, trace_pattern_of, options_of}
+use Rattle.def_session.specs.Settings.{FunctionPattern, Setting, setting_of, trace_pattern_of, options_of}
 use Rattle.def_state.specs.SettingTerms.{SettingTerm, FunctionTerm, setting_term_by, send_term_of, receive_term_of, function_term_for, function_term_by, function_term_of}
 use Rattle.def_state.specs.Laws.{TermsReadAsTheSettings}
 

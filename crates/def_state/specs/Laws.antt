@@ -1,6 +1,6 @@
 -- What is promised of the state after a move (own).
 -- Depends on states, on runs and on what a session makes of events.
-use Rattle.std.specs.Prelude.{◌≡◌, ℕ, ◌<◌, ◌≤◌, Bool, false, ◌||◌, if◌then◌else◌, List, [], ◌∷◌, ◌++◌, length, take, filter, Option, Some, None, Ok}
+use Rattle.std.specs.Prelude.{◌≡◌, ℕ, ◌<◌, ◌≤◌, false, ◌||◌, if◌then◌else◌, List, [], ◌∷◌, ◌++◌, length, take, filter, Option, Some, None, Ok}
 use Rattle.std.specs.Str.{bytes_eq}
 use Rattle.def_term.specs.Names.{Name}
 use Rattle.def_script.specs.Program.{Command, Program}
@@ -8,7 +8,7 @@ use Rattle.def_script.specs.Exports.{exports_of}
 use Rattle.def_node.specs.Event.{Call}
 use Rattle.def_spec.specs.Flags.{Flag, Flags, flags_by_name, flags_listed}
 use Rattle.def_spec.specs.Expressions.{for_calls, for_sends, for_receives}
-use Rattle.def_session.specs.Settings.{Setting, off, plain, FunctionSetting, setting_of, setting_for}
+use Rattle.def_session.specs.Settings.{Setting, off, plain, setting_of, setting_for}
 use Rattle.def_session.specs.State.{live}
 use Rattle.def_run.specs.Run.{JOURNAL, moves, pick_step_after}
 use Rattle.def_run.specs.View.{is_own, View, view, strike_program, strike_picks}

@@ -8,10 +8,10 @@
 -- {messages,[hi]}                                   the mailbox in the order of arrival
 -- {links,[<0.101.0>]}                               the processes that it is linked to, by rising pid
 -- {signal,noproc}                                   the reason of an exit signal that waits, where one does
-use Rattle.std.specs.Prelude.{ℕ, suc, ◌+◌, Bool, true, false, if◌then◌else◌, List, [], ◌∷◌, ◌++◌, map, length, Option, Some, None, option_to_list, pos, codes}
+use Rattle.std.specs.Prelude.{ℕ, suc, ◌+◌, Bool, if◌then◌else◌, List, [], ◌∷◌, ◌++◌, map, length, Option, Some, None, option_to_list, pos, codes}
 use Rattle.std.specs.Option.{option_map}
 use Rattle.def_term.specs.Tree.{Tree, int, atom, pid}
-use Rattle.def_term.specs.Names.{Name, Mfa, word, mfa_term}
+use Rattle.def_term.specs.Names.{Name, word, mfa_term}
 use Rattle.def_term.specs.Alive.{FIRST_PID}
 use Rattle.def_script.specs.Program.{Function, Entry, entry_mfa}
 use Rattle.def_node.specs.Process.{Frame, Process, mfa_at}

@@ -12,7 +12,7 @@
 -- 'receive' {match_spec,T}                          the same of receives
 -- <0.100.0> {frame,2} return_trace                  a frame with a mark, by rising pid and depth: how its call returns is reported
 -- <0.100.0> {frame,2} exception_trace               and how an exception leaves it is too
-use Rattle.std.specs.Prelude.{ℕ, ◌+◌, Bool, true, false, if◌then◌else◌, List, [], ◌∷◌, ◌++◌, flat_map, Option, Some, None, pos}
+use Rattle.std.specs.Prelude.{ℕ, Bool, if◌then◌else◌, List, [], ◌∷◌, ◌++◌, flat_map, Option, Some, None, pos}
 use Rattle.def_term.specs.Tree.{Tree, int, atom, pid, list, none}
 use Rattle.def_term.specs.Names.{Name, Mfa, word, mfa_term}
 use Rattle.def_term.specs.Alive.{FIRST_PID, PROCESSES, is_alive}
@@ -20,7 +20,7 @@ use Rattle.def_script.specs.Program.{Command}
 use Rattle.def_script.specs.Exports.{Exports}
 use Rattle.def_spec.specs.Flags.{Flag, Flags, flags_by_name}
 use Rattle.def_node.specs.Process.{FRAMES}
-use Rattle.def_session.specs.Settings.{FunctionSetting, Setting, off, plain, by}
+use Rattle.def_session.specs.Settings.{Setting, off, plain, by}
 use Rattle.def_session.specs.State.{Phase, absent, live, destroyed, MarkKind, for_returns, for_exceptions, Session, flags_at, mark_of}
 use Rattle.def_run.specs.Round.{pass_from}
 use Rattle.def_run.specs.View.{View}

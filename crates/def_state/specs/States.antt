@@ -1,6 +1,6 @@
 -- The state of a run after so many of its moves, as a text: a section for each session and each process (own).
 -- Depends on runs, and on the lines of sessions and processes.
-use Rattle.std.specs.Prelude.{ℕ, Bool, true, if◌then◌else◌, List, [], ◌∷◌, ◌++◌, flat_map, take, Option, Some, None}
+use Rattle.std.specs.Prelude.{ℕ, Bool, true, if◌then◌else◌, List, [], ◌++◌, flat_map, take, Option, Some, None}
 use Rattle.std.specs.Str.{bytes_eq}
 use Rattle.def_term.specs.Names.{Name}
 use Rattle.def_term.specs.Alive.{FIRST_PID}
