@@ -178,7 +178,7 @@ module _ {A : Type 0} (p : Program) (items : List HistoryItem) (s : Name × Name
 
   pub absent_session_written : (slot : Slot A Discard) (a b d : List ℕ) → slot.session ≡ None → IsSlotAfter p items s.0 slot → b ≡ a ++ header_line s.0 s.1 → d ≡ b ++ terms_line (word "absent" ∷ []) → d ≡ a ++ session_text s (view_of p items s.0)
   absent_session_written slot a b d none h header text =
-      let before : IsSession (exports_of p).functions h.0 (state_of (view_of p items s.0)) None = subst (IsSession (exports_of p).functions h.0 (state_of (view_of p items s.0))) none h.1 in
+      let before : IsSession {A = A} (exports_of p).functions h.0 (state_of (view_of p items s.0)) None = subst (IsSession {A = A} (exports_of p).functions h.0 (state_of (view_of p items s.0))) none h.1 in
       text ∙ ap (λ x. x ++ terms_line (word "absent" ∷ [])) header ∙ append_assoc a (header_line s.0 s.1) (terms_line (word "absent" ∷ []))
       ∙ ap (λ v. a ++ (header_line s.0 s.1 ++ text_in_phase v.phase (exports_of p) v (commands_to (filter (is_own s.0) items)))) (sym before)
 
