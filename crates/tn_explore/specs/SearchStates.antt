@@ -22,6 +22,10 @@ AdvancesState Journal IsOf pick old new moved = (a : Query) → IsOf old a → S
 abbrev pub HaveAllMoves : Query → (journal picks : List ℕ) → Type 0
 HaveAllMoves a journal picks = (pick : ℕ) → IsMovingAfter a.program journal pick → Contains picks pick
 
+-- of the state
+abbrev pub HasAllMoves : {S : Type 0} → (S → List ℕ) → (S → Query → Type 0) → S → List ℕ → Type 0
+HasAllMoves Journal IsOf s picks = (a : Query) → IsOf s a → HaveAllMoves a (Journal s) picks
+
 -- every other pick is idle; or, where some are left out, perhaps the picks are independent of all others
 abbrev pub AreEnough : Bool → Query → (journal picks : List ℕ) → Type 0
 AreEnough false a journal picks = HaveAllMoves a journal picks

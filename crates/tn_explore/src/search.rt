@@ -79,7 +79,7 @@ fn try_state<A: Allocator + Copy, S: SearchState<A>>(
     if !state.is_admitted(alloc, filter)? {
         return answer(alloc, state, answers);
     }
-    let picks = state.picks(alloc, filter)?;
+    let picks = state.picks_to_try(alloc, context, filter)?;
     let moved = try_picks(context, state, &picks, next)?;
     if moved {
         return Ok(());

@@ -8,8 +8,8 @@ pub trait SearchState<A: Allocator>: Sized + Drop {
     ghost use Rattle.std.specs.Prelude.{◌≡◌, ℕ, Bool, List, IfOk};
     ghost use Rattle.def_explore.specs.Rests.{KeptMessages};
     ghost use Rattle.tn_explore.specs.Query.{Query};
-    ghost use Rattle.tn_explore.specs.SearchStates.{IsCopy, AdvancesState, HasPicks, HasRoom, IsAdmitted, AreSame};
-    ghost use Rattle.tn_explore.specs.SearchStates.{KeepsFor, EqualsByKept};
+    ghost use Rattle.tn_explore.specs.SearchStates.{IsCopy, AdvancesState, HasAllMoves, HasPicks, HasRoom};
+    ghost use Rattle.tn_explore.specs.SearchStates.{IsAdmitted, AreSame, KeepsFor, EqualsByKept};
 
     /// What all states of a search have in common, as the program of a run.
     type Context;
@@ -35,10 +35,20 @@ pub trait SearchState<A: Allocator>: Sized + Drop {
     /// What the definitions keep.
     ghost kept_seen: { Self.Observation → KeptMessages };
 
-    /// The picks that may move; where picks are left out, perhaps such alone as are independent of all others.
-    fn picks(&self, alloc: A, filter: &Self::Filter) -> Result<Vec<u32, A>, AllocError>
-        ensures { IfOk result (λ v. (x : Self.Context) →
-            HasPicks journal (is_of x) filters leaves_out filter.now self.now v.items) };
+    /// The picks that may move.
+    fn picks(&self, alloc: A) -> Result<Vec<u32, A>, AllocError>
+        ensures { IfOk result (λ v. (x : Self.Context) → HasAllMoves journal (is_of x) self.now v.items) };
+
+    /// The picks that are tried: those that may move; where picks are left out, perhaps such alone as are independent of
+    /// all others.
+    fn picks_to_try(
+        &self,
+        alloc: A,
+        context: &Self::Context,
+        filter: &Self::Filter,
+    ) -> Result<Vec<u32, A>, AllocError>
+        ensures { IfOk result (λ v.
+            HasPicks journal (is_of context.now) filters leaves_out filter.now self.now v.items) };
 
     /// Whether its journal has room for a pick more, where picks are left out. Where none are it is true.
     fn has_room(&self, filter: &Self::Filter) -> bool
