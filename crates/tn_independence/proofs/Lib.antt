@@ -1,1 +1,2 @@
 pub mod EitherLinks
+pub mod Counts

@@ -7,7 +7,7 @@ use crate::shared_spec::SharedSpec;
 use crate::state::{Kind, Phase, State};
 use std::alloc::Allocator;
 use tn_flags::{Call, FlagTable, Flags};
-use tn_index::Setting;
+use tn_index::{FunctionSetting, Setting};
 use tn_spec::Spec;
 use tn_term::{Alive, Mfa};
 
@@ -26,7 +26,7 @@ pub struct NewestSetting<'a, A: Allocator> {
 }
 
 /// The setting, with its specification borrowed.
-fn borrow_setting<A: Allocator + Copy>(setting: &Setting<SharedSpec<A>>) -> Setting<&Spec<A>>
+pub fn borrow_setting<A: Allocator + Copy>(setting: &Setting<SharedSpec<A>>) -> Setting<&Spec<A>>
     ensures { look_setting result ≡ setting_seen setting.now }
 {
     match setting {
@@ -39,14 +39,14 @@ fn borrow_setting<A: Allocator + Copy>(setting: &Setting<SharedSpec<A>>) -> Sett
 }
 
 impl<'a, A: Allocator + Copy> Look<'a, A> {
-    ghost use Rattle.std.specs.Prelude.{◌≡◌};
+    ghost use Rattle.std.specs.Prelude.{◌≡◌, reverse};
     ghost use Rattle.std.specs.Option.{option_map};
     ghost use Rattle.def_session.specs.Session as session;
     ghost use Rattle.def_session.specs.State as definition;
     ghost use Rattle.tn_term.specs.Views.{alive_of, mfa_seen};
     ghost use Rattle.tn_flags.specs.Views.{call_seen, flags_of, table_of};
     ghost use Rattle.tn_session.specs.Looks.{look_seen, look_setting, is_live, newest_seen, newest_for, newest_among};
-    ghost use Rattle.tn_session.specs.Views.{mark_kind_seen};
+    ghost use Rattle.tn_session.specs.Views.{mark_kind_seen, settings_seen};
 
     /// Whether it was not destroyed.
     pub fn is_live(&self) -> bool
@@ -113,6 +113,13 @@ impl<'a, A: Allocator + Copy> Look<'a, A> {
         ensures { look_setting result ≡ (look_seen self.now).receiving }
     {
         borrow_setting(&self.state.receiving)
+    }
+
+    /// What each function command that was accepted sets, the oldest first (`trace:function/4`).
+    pub fn function_settings(&self) -> &'a [FunctionSetting<SharedSpec<A>, A>]
+        ensures { settings_seen (reverse result.now) ≡ (look_seen self.now).functions }
+    {
+        self.state.settings.commands()
     }
 
     /// What the newest function command that has the function, exported or not, among its own sets

@@ -10,7 +10,7 @@ use tn_spec::Spec;
 
 /// A compiled specification with several owners: one more takes a count, however large it is.
 #[derive(Drop)]
-pub(crate) struct SharedSpec<A: Allocator> {
+pub struct SharedSpec<A: Allocator> {
     compiled: Arc<CompiledSpec<A>, A>,
 }
 
