@@ -6,7 +6,7 @@ use Rattle.def_script.specs.Program.{Program}
 use Rattle.def_run.specs.Run.{JOURNAL, moves, run_state_of}
 use Rattle.def_run.specs.Laws.{IsIdleAfter, state_at}
 use Rattle.def_explore.specs.Rests.{IsMovingAfter}
-use Rattle.def_independence.specs.Alone.{shows_nothing_after}
+use Rattle.def_independence.specs.Alone.{are_own_steps, shows_own_steps_after, shows_nothing_after}
 use Rattle.tn_node.specs.Nodes.{NodeValue, PickAnswer, answers_events, answers_command, answers_nothing, node_at}
 
 -- the node is where these picks lead in a run of the program, whose journal has room
@@ -43,3 +43,13 @@ has_no_event answers_nothing = false
 -- wherever the node is, the process that is picked moves and shows nothing exactly where the answer is `true`
 abbrev pub ShowsNothing : ℕ → Option NodeValue → Bool → Type 0
 ShowsNothing pick node result = (p : Program) (picks : List ℕ) → IsNodeAfter p picks node → shows_nothing_after p picks pick ≡ result
+
+-- a process moved, and its step has calls, returns and exceptions alone
+abbrev pub has_own_steps : PickAnswer → Bool
+has_own_steps (answers_events es) = are_own_steps es
+has_own_steps (answers_command n) = false
+has_own_steps answers_nothing = false
+
+-- wherever the node is, the process that is picked moves and shows such events alone exactly where the answer is `true`
+abbrev pub ShowsOwnSteps : ℕ → Option NodeValue → Bool → Type 0
+ShowsOwnSteps pick node result = (p : Program) (picks : List ℕ) → IsNodeAfter p picks node → shows_own_steps_after p picks pick ≡ result

@@ -1,14 +1,17 @@
 -- When events left sessions in the same state, and what is kept of the messages of sessions by their places.
 -- Depends on what is kept of messages.
-use Rattle.std.specs.Prelude.{◌≡◌, ℕ, Bool, IsTrue, List, [], ◌∷◌, ◌++◌, map, slice_get, Option, Some, option_to_list}
+use Rattle.std.specs.Prelude.{◌≡◌, ◌&&◌, ℕ, Bool, true, false, not, IsTrue, length, List, [], ◌∷◌, ◌++◌, map, slice_get, Option, Some, option_to_list}
 use Rattle.def_term.specs.Alive.{Alive}
 use Rattle.def_term.specs.Names.{Name, Mfa}
 use Rattle.def_term.specs.Tree.{Tree}
 use Rattle.def_script.specs.Exports.{Exports}
 use Rattle.def_script.specs.Program.{Program}
 use Rattle.def_script.specs.Script.{creations}
+use Rattle.def_spec.specs.Flags.{receive_flag}
 use Rattle.def_session.specs.State as definition
+use Rattle.def_session.specs.State.{flags_at}
 use Rattle.def_explore.specs.Settings.{settings_in}
+use Rattle.def_independence.specs.OwnEffects.{session_acts_on_self}
 use Rattle.tn_session.specs.declared.session.Session.{Session}
 use Rattle.tn_trace.specs.Tracks.{Track}
 use Rattle.tn_trace.specs.Slots.{IsSession, IsTracked, EachPair}
@@ -69,3 +72,22 @@ AddsKept Keeps n slots old new =
 abbrev pub AreKeptAt : {A K : Type 0} → (K → List Tree → Type 0) → List ℕ → List (Slot A K) → List K → Type 0
 AreKeptAt Keeps places slots sinks =
     (o : Exports) (living : Alive) (ts : List Track) → EachPair (IsTracked Keeps o living) ts slots → AreSinksOf Keeps (track_messages (elements_at places ts)) sinks
+
+-- ---- sessions that a move of one process has to do with
+
+-- the session acts on its own processes alone, and shows no message to the process with this pid as it comes
+abbrev pub is_free_for : ℕ → definition.Session → Bool
+is_free_for n s = session_acts_on_self s && not (flags_at s n receive_flag)
+
+-- where it is true, the session of the definitions is so
+abbrev pub IsFreeSession : {A : Type 0} → ℕ → Option (Session A) → Bool → Type 0
+IsFreeSession n session result = IsTrue result → (fs : List (Mfa × Bool)) (living : Alive) (s : definition.Session) → IsSession fs living s session → is_free_for n s ≡ true
+
+-- of whichever session the slot at a place is, it is so, where there is one
+abbrev pub IsFreeAt : {A K : Type 0} → (K → List Tree → Type 0) → ℕ → List (Slot A K) → ℕ → Type 0
+IsFreeAt {A} {K} Keeps n slots place = (slot : Slot A K) → slice_get slots place ≡ Some slot → (o : Exports) (living : Alive) (t : Track) → IsTracked Keeps o living t slot → is_free_for n t.session ≡ true
+
+-- of whichever messages these are, where all of them are in an order, as many are at a place of both lists
+abbrev pub AreAsManyAt : {A K : Type 0} → (K → List Tree → Type 0) → Bool → List (Slot A K) → List (Slot A K) → ℕ → Type 0
+AreAsManyAt {A} {K} Keeps b ones others place =
+    (s t : Slot A K) → slice_get ones place ≡ Some s → slice_get others place ≡ Some t → b ≡ false → (ms ns : List Tree) → Keeps s.kept ms → Keeps t.kept ns → length ms ≡ length ns

@@ -114,6 +114,10 @@ impl<A: Allocator + Copy> SearchSink<A> for ProcessSink<A> {
         self.messages.same(&other.messages)
     }
 
+    fn as_many(&self, _other: &Self) -> bool {
+        true
+    }
+
     fn add_to(&self, hasher: &mut FoldHasher) {
         self.messages.add_to(hasher);
     }

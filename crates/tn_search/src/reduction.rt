@@ -48,25 +48,56 @@ fn silent_pick<A: Allocator + Copy>(
     Ok(None)
 }
 
-/// The first of some picks after a state that is independent of all others, whatever is asked: where no function makes
-/// or removes a link, one that moves and shows nothing, as a receive does. None where there is none.
-pub(crate) fn first_pick<A: Allocator + Copy, K: SearchSink<A> + Drop, F>(
-    program: &Program<A>,
-    state: &ProgramState<A, K, F>,
-    picks: &[u32],
-) -> Result<Option<u32>, AllocError>
-    ensures { IfOk result (λ o. IfSome o (IsFirstPick K.keeps K.is_by_process program.now state.now)) }
+/// Whether a process moved, and its step has calls, returns and exceptions alone.
+fn has_own_steps<A: Allocator>(moved: &Moved<A>) -> bool
+    ensures { result ≡ has_own_steps (moved_seen moved.now) }
 {
-    let made = state.run.journal().len();
-    if made >= JOURNAL {
-        return Ok(None);
+    match moved {
+        Moved::Moved(events) => are_own_steps(events),
+        Moved::Control(_) => false,
+        Moved::Idle => false,
     }
-    if change_links(program.functions()) {
-        return Ok(None);
-    }
-    silent_pick(state.run.node(), picks)
 }
 
+/// Whether a node moves by a pick, and shows calls, returns and exceptions alone.
+fn shows_own_steps<A: Allocator + Copy>(node: &Node<A>, pick: u32) -> Result<bool, AllocError>
+    ensures { IfOk result (ShowsOwnSteps pick node.now) }
+{
+    let mut probe = node.share()?;
+    let moved = probe.step(pick)?;
+    Ok(has_own_steps(&moved))
+}
+
+/// Whether no command is left.
+fn has_no_command<A: Allocator + Copy>(node: &Node<A>) -> Result<bool, AllocError>
+    ensures { IfOk result (HasNoCommand node.now) }
+{
+    let mut probe = node.share()?;
+    let moved = moves_by(&mut probe, 0)?;
+    Ok(!moved)
+}
+
+/// Whether a pick after a state, which shows calls, returns and exceptions alone, has to do with no other pick.
+fn is_apart<A: Allocator + Copy, K: SearchSink<A> + Drop, F: RunFilter<A>>(
+    program: &Program<A>,
+    state: &ProgramState<A, K, F>,
+    pick: u32,
+) -> Result<bool, AllocError>
+    ensures { IfOk result (λ b. IsTrue b → IsApartPick K.keeps K.is_by_process program.now state.now pick) }
+{
+    let before = &state.run.observer().slots;
+    if !are_free(&state.places, before, pick) {
+        return Ok(false);
+    }
+    let mut after = state.share()?;
+    if !after.advance(program, pick)? {
+        return Ok(false);
+    }
+    let slots = &after.run.observer().slots;
+    let free = are_free(&state.places, slots, pick);
+    let many = as_many(&state.places, before, slots);
+    Ok(free && many)
+}
 /// This pick alone.
 pub(crate) fn pick_alone<A: Allocator>(alloc: A, pick: u32) -> Result<Vec<u32, A>, AllocError>
     ensures { IfOk result (λ v. v.items ≡ pick ∷ []) }

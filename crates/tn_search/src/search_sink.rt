@@ -10,7 +10,7 @@ pub trait SearchSink<A: Allocator>: SharedSink<A> {
     ghost use Rattle.def_term.specs.Tree.{Tree};
     ghost use Rattle.tn_trace.specs.Slots.{EachPair};
     ghost use Rattle.tn_messages.specs.MessageViews.{kept_seen, kept_lists};
-    ghost use Rattle.tn_search.specs.Sinks.{KeepSame};
+    ghost use Rattle.tn_search.specs.Sinks.{KeepSame, KeepAsMany};
 
     /// Whether it is by process.
     ghost is_by_process: { Bool };
@@ -18,6 +18,10 @@ pub trait SearchSink<A: Allocator>: SharedSink<A> {
     /// Whether the same is kept. Where it is false that may be so too.
     fn same(&self, other: &Self) -> bool
         ensures { KeepSame Self.keeps is_by_process self.now other.now result };
+
+    /// Whether as many messages are kept, where all of them are in an order. Where it is false that may be so too.
+    fn as_many(&self, other: &Self) -> bool
+        ensures { KeepAsMany Self.keeps is_by_process self.now other.now result };
 
     /// Adds what is kept to a hash: the same adds the same.
     fn add_to(&self, hasher: &mut FoldHasher);

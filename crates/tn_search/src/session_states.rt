@@ -3,10 +3,12 @@ ghost use Rattle.std.specs.Prelude.{◌≡◌, IsTrue, IfOk};
 ghost use Rattle.tn_term.specs.Views.{alive_of};
 ghost use Rattle.def_explore.specs.Lists.{EachOf};
 ghost use Rattle.tn_search.specs.Sessions.{AreSameAt, IsSameSlot, IsSameSession, AreKeptAt, AddsKept};
+ghost use Rattle.tn_search.specs.Sessions.{IsFreeSession, IsFreeAt, AreAsManyAt};
 
 use crate::search_sink::SearchSink;
 use std::alloc::{AllocError, Allocator};
 use std::hash::{FoldHasher, Hasher};
+use tn_independence::session_acts_on_self;
 use tn_session::Session;
 use tn_term::{Alive, PROCESSES};
 use tn_trace::Slot;
@@ -128,4 +130,82 @@ pub(crate) fn share_kept<A: Allocator + Copy, K: SearchSink<A> + Drop>(
         add_kept(alloc, *place, slots, &mut sinks)?;
     }
     Ok(sinks)
+}
+
+/// Whether a session acts on its own processes alone, and shows no message to this process as it comes.
+fn is_free_session<A: Allocator + Copy>(session: &Option<Session<A>>, pid: u32) -> bool
+    ensures { IsFreeSession pid session.now result }
+{
+    let Some(session) = session else {
+        return true;
+    };
+    let Some(look) = session.look() else {
+        return false;
+    };
+    let acts = session_acts_on_self(&look);
+    let flags = look.flags_at(pid);
+    acts && !flags.receive
+}
+
+/// The same of the session at a place, where there is one.
+fn is_free_at<A: Allocator + Copy, K: SearchSink<A> + Drop>(
+    place: usize,
+    slots: &[Slot<A, K>],
+    pid: u32,
+) -> bool
+    ensures { IsTrue result → IsFreeAt K.keeps pid slots.now place }
+{
+    if place >= slots.len() {
+        return true;
+    }
+    is_free_session(&slots[place].session, pid)
+}
+
+/// The same of the sessions at these places.
+pub(crate) fn are_free<A: Allocator + Copy, K: SearchSink<A> + Drop>(
+    places: &[usize],
+    slots: &[Slot<A, K>],
+    pid: u32,
+) -> bool
+    ensures { IsTrue result → EachOf (IsFreeAt K.keeps pid slots.now) places.now }
+{
+    for place in places {
+        if !is_free_at(*place, slots, pid) {
+            return false;
+        }
+    }
+    true
+}
+
+/// Whether as many messages are kept of the sessions at a place, where both lists have it.
+fn as_many_at<A: Allocator + Copy, K: SearchSink<A> + Drop>(
+    place: usize,
+    one: &[Slot<A, K>],
+    other: &[Slot<A, K>],
+) -> bool
+    ensures { IsTrue result → AreAsManyAt K.keeps K.is_by_process one.now other.now place }
+{
+    if place >= one.len() {
+        return true;
+    }
+    if place >= other.len() {
+        return true;
+    }
+    one[place].kept.as_many(&other[place].kept)
+}
+
+/// The same of the sessions at these places.
+pub(crate) fn as_many<A: Allocator + Copy, K: SearchSink<A> + Drop>(
+    places: &[usize],
+    one: &[Slot<A, K>],
+    other: &[Slot<A, K>],
+) -> bool
+    ensures { IsTrue result → EachOf (AreAsManyAt K.keeps K.is_by_process one.now other.now) places.now }
+{
+    for place in places {
+        if !as_many_at(*place, one, other) {
+            return false;
+        }
+    }
+    true
 }

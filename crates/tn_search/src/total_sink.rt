@@ -97,6 +97,10 @@ impl<A: Allocator + Copy> SearchSink<A> for TotalSink<A> {
         same_messages(&self.messages, &other.messages)
     }
 
+    fn as_many(&self, other: &Self) -> bool {
+        self.messages.len() == other.messages.len()
+    }
+
     fn add_to(&self, hasher: &mut FoldHasher) {
         self.messages.hash(hasher);
     }
