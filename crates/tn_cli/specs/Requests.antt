@@ -187,9 +187,13 @@ form_given true = forms.Json
 form_given false = forms.Plain
 
 -- that of listings, which may be their summary
-abbrev pub listings_form_given : (is_summary is_json : Bool) → AnswerForm
-listings_form_given true is_json = forms.Summary
-listings_form_given false is_json = form_given is_json
+abbrev pub listings_form_by : (is_summary is_json : Bool) → AnswerForm
+listings_form_by true is_json = forms.Summary
+listings_form_by false is_json = form_given is_json
+
+-- the form that `--summary` and `--json` ask for
+abbrev pub listings_form_given : ArgMatches → AnswerForm
+listings_form_given m = listings_form_by (is_given m (codes "summary")) (is_given m (codes "json"))
 
 -- so many random runs with this seed, or with 0
 abbrev pub random_runs_given : (runs seed : Option ℕ) → Option RandomRuns
@@ -221,7 +225,7 @@ IsExplorationOf m x =
     × (x.trace ≡ None)
     × IsGiven 1 4294967295 (argument m (codes "max-states")) x.max_states
     × AreRandomRunsOf m x.random
-    × (x.form ≡ listings_form_given (is_given m (codes "summary")) (is_given m (codes "json")))
+    × (x.form ≡ listings_form_given m)
 
 -- it is about no pattern
 pub record IsAboutNoPattern (x : ExploreArgs) : Type 0 where

@@ -359,7 +359,7 @@ fn answer_form<'a>(matches: &ArgMatches<'a>) -> AnswerForm
 
 /// The form of the answer of an exploration: also the summary of its listings, where `--summary` is given.
 fn listings_form<'a>(matches: &ArgMatches<'a>) -> AnswerForm
-    ensures { result ≡ listings_form_given (is_given matches.now (codes "summary")) (is_given matches.now (codes "json")) }
+    ensures { result ≡ listings_form_given matches.now }
 {
     if flag(matches, "summary") {
         AnswerForm::Summary
