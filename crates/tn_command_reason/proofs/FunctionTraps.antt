@@ -41,7 +41,7 @@ module _ {A : Type 0} (k : FunctionSetting) (fs : List (Function A)) (i : ℕ) (
       ∙ ap (λ l. before ++ l) (sym (by_test true e))
       ∙ left
 
-  -- another is passed
+  -- another is where_false
   pub one_less : (before whole : List ℕ) → false ≡ has_among k (mfa_of (function_of x)) (function_of x).exported
       → before ++ arities_from k fs i ≡ whole → before ++ arities_from k fs (i + 1) ≡ whole
   one_less before whole e left = ap (λ l. before ++ l) (sym (by_test false e)) ∙ left

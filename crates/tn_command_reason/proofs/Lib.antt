@@ -1,5 +1,6 @@
 mod NearestFunctions
 pub mod FunctionTraps
 pub mod SpecTraps
+pub mod Choices
 pub mod CommandReasons
 pub mod ReplyTexts

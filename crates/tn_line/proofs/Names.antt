@@ -10,7 +10,7 @@ use Rattle.clap.specs.Adds.{AddsConflicts}
 use Rattle.clap.specs.Facts.{args_of, groups_of, subcommands_of}
 use Rattle.clap.specs.Built.{AddsArg, AddsGroup, AddsSubcommand, subcommand_names}
 use Rattle.clap.specs.Simple.{Shape, shape_of}
-use Rattle.tn_line.specs.Line.{EXPECTATION, IsCommand, IsWithFormats, IsWithExpectation, ExcludesPicks, PICKS, WantsBy}
+use Rattle.tn_line.specs.Line.{EXPECTATION, IsCommand, IsWithFormats, IsWithExpectation, Excludes, WantsBy}
 
 pub one_more : (name : List ℕ) (arguments : List (List ℕ)) (word : List ℕ) (old new : Command) (a : Arg)
     → IsCommand name arguments old → a.id.now ≡ word → AddsArg old a new → IsCommand name (arguments ++ word ∷ []) new
@@ -43,13 +43,13 @@ wants_it old new g none added = added.1 ∙ ap (λ gs. gs ++ g ∷ []) none
 pub still_wants : (g : ArgGroup) (old new : Command) (a : Arg) → WantsBy g old → AddsArg old a new → WantsBy g new
 still_wants g old new a wants added = added.groups ∙ wants
 
--- an argument that can't be given with picks has the same name
-pub same_name : (word : List ℕ) (old new : Arg) → old.id.now ≡ word → ExcludesPicks old new → new.id.now ≡ word
-same_name word old new is excludes = ap (λ (a : Arg). a.id.now) excludes.same ∙ is
+-- an argument that can't be given with others has the same name
+pub same_name : (names : List (List ℕ)) (word : List ℕ) (old new : Arg) → old.id.now ≡ word → Excludes names old new → new.id.now ≡ word
+same_name names word old new is excludes = ap (λ (a : Arg). a.id.now) excludes.same ∙ is
 
 -- some references more, of these texts
-pub excluded : (old new : Arg) (ids : List (Bor (List ℕ))) → map (λ w. w.now) ids ≡ PICKS → AddsConflicts old new ids → ExcludesPicks old new
-excluded old new ids are added = record {
+pub excluded : (names : List (List ℕ)) (old new : Arg) (ids : List (Bor (List ℕ))) → map (λ w. w.now) ids ≡ names → AddsConflicts old new ids → Excludes names old new
+excluded names old new ids are added = record {
   same = added.0;
   excludes = ap (map (λ w. w.now)) added.1 ∙ map-append (λ w. w.now) old.conflicts.items ids ∙ ap (λ l. map (λ w. w.now) old.conflicts.items ++ l) are;
 }
@@ -81,11 +81,16 @@ five_after : (xs : List (List ℕ)) (a b d f h : List ℕ) → ((xs ++ a ∷ b �
 five_after [] a b d f h = refl
 five_after (x ∷ xs) a b d f h = ap (λ l. x ∷ l) (five_after xs a b d f h)
 
--- the five arguments that say what the output must be, and its commands
-pub expectation_more : (old second third fourth fifth new : Command) (a b d f h : Arg) → a.id.now ≡ codes "expect" → b.id.now ≡ codes "expect-line"
-    → d.id.now ≡ codes "reject-line" → f.id.now ≡ codes "strict" → h.id.now ≡ codes "max-output" → AddsArg old a second → AddsArg second b third → AddsArg third d fourth
-    → AddsArg fourth f fifth → AddsArg fifth h new → IsWithExpectation old new
-expectation_more old second third fourth fifth new a b d f h is_a is_b is_d is_f is_h with_a with_b with_d with_f with_h = record {
+-- six arguments, one after the other
+six_after : (xs : List (List ℕ)) (a b d f h k : List ℕ) → ((xs ++ a ∷ b ∷ d ∷ f ∷ h ∷ []) ++ k ∷ []) ≡ xs ++ a ∷ b ∷ d ∷ f ∷ h ∷ k ∷ []
+six_after [] a b d f h k = refl
+six_after (x ∷ xs) a b d f h k = ap (λ l. x ∷ l) (six_after xs a b d f h k)
+
+-- the six arguments that say what the output must be, and its commands, and which file it goes to
+pub expectation_more : (old second third fourth fifth sixth new : Command) (a b d f h k : Arg) → a.id.now ≡ codes "expect" → b.id.now ≡ codes "expect-line"
+    → d.id.now ≡ codes "reject-line" → f.id.now ≡ codes "strict" → h.id.now ≡ codes "max-output" → k.id.now ≡ codes "output" → AddsArg old a second → AddsArg second b third
+    → AddsArg third d fourth → AddsArg fourth f fifth → AddsArg fifth h sixth → AddsArg sixth k new → IsWithExpectation old new
+expectation_more old second third fourth fifth sixth new a b d f h k is_a is_b is_d is_f is_h is_k with_a with_b with_d with_f with_h with_k = record {
   takes_more = λ name arguments is.
       let one = one_more name arguments (codes "expect") old second a is is_a with_a in
       let two = one_more name _ (codes "expect-line") second third b one is_b with_b in
@@ -93,10 +98,12 @@ expectation_more old second third fourth fifth new a b d f h is_a is_b is_d is_f
       let so = subst (λ l. IsCommand name l fourth) (three_after arguments (codes "expect") (codes "expect-line") (codes "reject-line")) three in
       let four = one_more name _ (codes "strict") fourth fifth f so is_f with_f in
       let next = subst (λ l. IsCommand name l fifth) (four_after arguments (codes "expect") (codes "expect-line") (codes "reject-line") (codes "strict")) four in
-      let five = one_more name _ (codes "max-output") fifth new h next is_h with_h in
-      subst (λ l. IsCommand name l new) (five_after arguments (codes "expect") (codes "expect-line") (codes "reject-line") (codes "strict") (codes "max-output")) five;
-  wants_so = λ g wants. still_wants g fifth new h (still_wants g fourth fifth f (still_wants g third fourth d
-      (still_wants g second third b (still_wants g old second a wants with_a) with_b) with_d) with_f) with_h;
+      let five = one_more name _ (codes "max-output") fifth sixth h next is_h with_h in
+      let last = subst (λ l. IsCommand name l sixth) (five_after arguments (codes "expect") (codes "expect-line") (codes "reject-line") (codes "strict") (codes "max-output")) five in
+      let six = one_more name _ (codes "output") sixth new k last is_k with_k in
+      subst (λ l. IsCommand name l new) (six_after arguments (codes "expect") (codes "expect-line") (codes "reject-line") (codes "strict") (codes "max-output") (codes "output")) six;
+  wants_so = λ g wants. still_wants g sixth new k (still_wants g fifth sixth h (still_wants g fourth fifth f (still_wants g third fourth d
+      (still_wants g second third b (still_wants g old second a wants with_a) with_b) with_d) with_f) with_h) with_k;
 }
 
 -- a command with these after its own arguments, where there was memory for that

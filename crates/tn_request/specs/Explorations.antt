@@ -14,7 +14,7 @@ use Rattle.tn_trace.specs.Slots.{EachPair}
 use Rattle.tn_request.specs.declared.exploration.PatternsFault.{PatternsFault}
 use Rattle.tn_request.specs.declared.request.ExploreArgs.{ExploreArgs}
 use Rattle.tn_request.specs.declared.request.Request.{Request}
-use Rattle.tn_request.specs.declared.request.Request.TheVariants.{Run, Workers, Spec, Fun, Explore}
+use Rattle.tn_request.specs.declared.request.Request.TheVariants.{Run, Message, Workers, Spec, Fun, Explore}
 
 -- the schedules begin with the moves of the text, this is asked, and the rest is as the words say
 pub record IsExplorationAsked (args : ExploreArgs) (asked : SearchQuestion Global) (q : ExploreRequest) : Type 0 where
@@ -53,6 +53,7 @@ IsPatternsFault args e =
 -- an exploration may have one more status than other requests have
 abbrev pub IsRequestStatus : Request → ℕ → Type 0
 IsRequestStatus (Run run) n = IsStatus n
+IsRequestStatus (Message m) n = IsStatus n
 IsRequestStatus (Workers workers) n = IsStatus n
 IsRequestStatus (Spec trial) n = IsStatus n
 IsRequestStatus (Fun fun) n = IsStatus n

@@ -1,17 +1,19 @@
 -- The parts of the texts of why terms are no match specifications.
-use Rattle.std.proofs.Common.{◌≡◌, ◌∙◌, ℕ, Bool, true, if◌then◌else◌, List, [], ◌∷◌, ◌++◌, Option, Some, None, codes, decimal, refl, sym, ap, append_assoc, append-nil}
-use Rattle.std.specs.Option.{option_map}
+use Rattle.std.proofs.Common.{◌≡◌, ◌≢◌, ◌∙◌, ℕ, Bool, true, false, ◌||◌, if◌then◌else◌, List, [], ◌∷◌, ◌++◌, Option, Some, None, codes, decimal, refl, sym, ap, append_assoc, append-nil}
+use Rattle.std.specs.Option.{option_map, unwrap_or}
+use Rattle.std.proofs.lemmas.Bool.{false_from_ne_true}
 use Rattle.std.specs.Str.{bytes_eq}
+use Rattle.std.proofs.lemmas.Slice.Eq.{bytes_eq-Decides}
 use Rattle.def_term.specs.Tree.{tuple, Trees, more, none, atom, count}
 use Rattle.def_term.specs.Names.{Name}
 use Rattle.def_term.specs.Text.{w, comma_list, each_after_comma, atom_text, is_written_bare}
 use Rattle.def_spec.specs.Expressions.{Action, message, return_trace, exception_trace, silent, enable_trace, disable_trace, trace, caller}
 use Rattle.def_spec.specs.Reading.{Callee, Row, row}
-use Rattle.def_explain.specs.ReasonTexts.{row_counts, tuple_text, no_function_text, other_name_text, meant_in, common_slips, with_count}
+use Rattle.def_explain.specs.ReasonTexts.{row_counts, tuple_text, not_modelled_text, no_function_text, other_name_text, meant_in, common_slips, with_count, in_dbg_text, setting_name_text}
 use Rattle.def_trap.specs.Actions.{action_name}
 use Rattle.tn_spec.specs.declared.table.Row as code
 use Rattle.tn_spec.specs.Names.{row_seen, row_of}
-use Rattle.tn_verdict.specs.SpecReasonTexts.{counts_of}
+use Rattle.tn_verdict.specs.SpecReasonTexts.{counts_of, suggestion_text}
 
 -- the name of an action is written bare
 pub action_is_bare : (a : Action) → atom_text (action_name a) ≡ action_name a
@@ -60,7 +62,49 @@ pub none_meant : (s : Name) (ts : Trees) (o : Option Name) → None ≡ option_m
 none_meant s ts None e = refl
 none_meant s ts (Some x) e = absurd (cc)
 
+-- a name for which another is meant
+pub some_meant : (s : Name) (ts : Trees) (o : Option Name) (m : List ℕ) → Some m ≡ option_map atom_text o → codes "no function " ++ suggestion_text s m ≡ no_function_text s ts o
+some_meant s ts None m e = absurd (cc)
+some_meant s ts (Some x) m e = ap (λ y. codes "no function " ++ suggestion_text s y) (ap (λ z. unwrap_or z []) e)
+
+-- ---- what stands in place of a specification
+
+unequal : (s a : Name) → s ≢ a → bytes_eq s a ≡ false
+unequal s a h = false_from_ne_true (bytes_eq s a) (λ e. h ((bytes_eq-Decides s a).0 e))
+
+unequal_to : (a s : Name) → s ≢ a → bytes_eq a s ≡ false
+unequal_to a s h = false_from_ne_true (bytes_eq a s) (λ e. h (sym ((bytes_eq-Decides a s).0 e)))
+
+-- another name is nothing elsewhere
+pub no_setting_text : (s : Name) → s ≢ codes "restart" → s ≢ codes "pause" → s ≢ codes "x" → s ≢ codes "c" → s ≢ codes "cx" → [] ≡ setting_name_text s
+no_setting_text s restart pause x c cx =
+    sym (λ i.
+    if (unequal s (codes "restart") restart i || (unequal s (codes "pause") pause i || false)) then codes ": " ++ not_modelled_text s else
+    in_dbg_text (
+    if unequal_to (codes "x") s x i then Some (codes "[{'_',[],[{exception_trace}]}]") else
+    if unequal_to (codes "c") s c i then Some (codes "[{'_',[],[{message,{caller}}]}]") else
+    if unequal_to (codes "cx") s cx i then Some (codes "[{'_',[],[{exception_trace},{message,{caller}}]}]") else
+    None))
+
+-- ---- names that are read alone
+
 -- `const`
+abbrev pub text_by : Name → Trees → Bool → Bool → List ℕ
+text_by s ts is_const is_tracer =
+    if is_const then codes "const takes 1 argument, found " ++ decimal (count ts) else
+    if is_tracer then not_modelled_text s else
+    no_function_text s ts (meant_in common_slips s)
+
 pub const_text : (s : Name) (ts : Trees) (b : Bool) → b ≡ bytes_eq s (codes "const") → b ≡ true → codes "const takes 1 argument, found " ++ decimal (count ts) ≡ other_name_text s ts
-const_text s ts b e so =
-    sym (ap (λ x. if x then codes "const takes 1 argument, found " ++ decimal (count ts) else no_function_text s ts (meant_in common_slips s)) (sym e ∙ so))
+const_text s ts b e so = sym (ap (λ x. text_by s ts x (bytes_eq s (codes "tracer"))) (sym e ∙ so))
+
+-- `tracer`
+pub tracer_text : (s : Name) (ts : Trees) (b c : Bool) → b ≡ bytes_eq s (codes "const") → b ≡ false → c ≡ bytes_eq s (codes "tracer") → c ≡ true → codes "tracer of OTP 27 isn't modelled" ≡ other_name_text s ts
+unfolding is_written_bare
+tracer_text s ts b c e so f to =
+    sym (ap not_modelled_text ((bytes_eq-Decides s (codes "tracer")).0 (sym f ∙ to)))
+    ∙ sym (λ i. text_by s ts ((sym e ∙ so) i) ((sym f ∙ to) i))
+
+-- another name
+pub name_text : (s : Name) (ts : Trees) (b c : Bool) → b ≡ bytes_eq s (codes "const") → b ≡ false → c ≡ bytes_eq s (codes "tracer") → c ≡ false → no_function_text s ts (meant_in common_slips s) ≡ other_name_text s ts
+name_text s ts b c e so f to = sym (λ i. text_by s ts ((sym e ∙ so) i) ((sym f ∙ to) i))

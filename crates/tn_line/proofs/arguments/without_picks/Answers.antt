@@ -4,4 +4,4 @@ use Rattle.tn_line.proofs.Names.{excluded}
 use Rattle.tn_line.proofs.arguments.without_picks.Goals as goal
 
 pub returns : goal.returns
-returns c = IfOk-weaker c.conflicts_with_all.result _ _ (λ new added. excluded c.args.arg new _ refl added) c.conflicts_with_all.ensures
+returns c = IfOk-weaker c.conflicts_with_all.result _ _ (λ new added. excluded _ c.args.arg new _ refl added) c.conflicts_with_all.ensures

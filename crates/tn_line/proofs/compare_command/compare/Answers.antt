@@ -8,4 +8,6 @@ returns c =
     let first = one_more name _ (codes "order") c.in_ok-traces.field-0 c.in_ok-arg.field-0 c.listing_order.result c.in_ok-traces.ensures c.listing_order.ensures.named.0 c.in_ok-arg.ensures in
     let second = one_more name _ (codes "session") c.in_ok-arg.field-0 c.in_ok-arg-2.field-0 c.one_session.result first c.one_session.ensures.0 c.in_ok-arg-2.ensures in
     let third = one_more name _ (codes "max-states") c.in_ok-arg-2.field-0 c.in_ok-arg-3.field-0 c.max_states.result second c.max_states.ensures.named.0 c.in_ok-arg-3.ensures in
-    one_more_so name _ (codes "max-output") c.in_ok-arg-3.field-0 c.max_output.result c.arg-4.result third c.max_output.ensures.named.0 c.arg-4.ensures
+    let fourth = one_more name _ (codes "max-output") c.in_ok-arg-3.field-0 c.in_ok-arg-4.field-0 c.max_output.result third c.max_output.ensures.named.0
+    c.in_ok-arg-4.ensures in
+    one_more_so name _ (codes "output") c.in_ok-arg-4.field-0 c.output.result c.arg-5.result fourth c.output.ensures.0 c.arg-5.ensures

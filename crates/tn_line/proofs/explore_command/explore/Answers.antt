@@ -16,4 +16,6 @@ returns c =
     c.in_ok-arg-6.ensures in
     let seventh = one_more name _ (codes "max-states") c.in_ok-arg-6.field-0 c.in_ok-arg-7.field-0 c.max_states.result sixth c.max_states.ensures.named.0
     c.in_ok-arg-7.ensures in
-    one_more_so name _ (codes "max-output") c.in_ok-arg-7.field-0 c.max_output.result c.arg-8.result seventh c.max_output.ensures.named.0 c.arg-8.ensures
+    let eighth = one_more name _ (codes "max-output") c.in_ok-arg-7.field-0 c.in_ok-arg-8.field-0 c.max_output.result seventh c.max_output.ensures.named.0
+    c.in_ok-arg-8.ensures in
+    one_more_so name _ (codes "output") c.in_ok-arg-8.field-0 c.output.result c.arg-9.result eighth c.output.ensures.0 c.arg-9.ensures
