@@ -182,7 +182,7 @@ set_on_first_spawn, set_on_link, set_on_first_link
 7 0 {function,s,{m,f},true,[]}
   s: replies badarg: MFA is {M,F,A}, {M,F,'_'}, {M,'_','_'} or {'_','_','_'}, A from 0 to 255, found {m,f}
 8 0 {function,s,{m,go,0},true,[meta]}
-  s: replies badarg: Opts is [], [global] or [local], found [meta]
+  s: replies badarg: Opts is [], [global] or [local], found [meta]: meta of OTP 27 isn't modelled
 9 0 {function,s,{m,go,0},no,[]}
   s: replies badarg: Spec is true, false or a list of clauses, found no
 10 0 {function,s,{m,go,1},true,[]}

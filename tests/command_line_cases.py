@@ -180,6 +180,13 @@ def command_lines():
         "a flag twice": ["replay", "--picks", "0", "--quiet", "--quiet"],
         "a replay with the flag of explanations": ["replay", "--picks", "0", "--node"],
         "a round with the flag of explanations": ["round", "--node"],
+        "a replay with the message of explanations": ["replay", "--picks", "0", "--message", "'_'"],
+        "a message that is sent and isn't": ["explain", "--picks", "0", "--message", "'_'", "--why-not", "'_'"],
+        "a message and a move": ["explain", "--picks", "0", "--message", "'_'", "--move", "1"],
+        "a message and a node": ["explain", "--picks", "0", "--message", "'_'", "--node"],
+        "a missing message and a move": ["explain", "--picks", "0", "--move", "1", "--why-not", "'_'"],
+        "a missing message and a node": ["explain", "--picks", "0", "--node", "--why-not", "'_'"],
+        "a message without a pattern": ["explain", "--picks", "0", "--message"],
     }
     for name, words in wrong.items():
         ran = run(words, SEND_HI)
@@ -199,6 +206,7 @@ def command_lines():
         usage = f"Usage: tracenode {command} ".encode() + either + b" [SCRIPT]\n"
         check(f"{command} without picks names all sources of picks", usage in ran.stderr, ran)
         check(f"the help of {command} names all sources of picks", either in run([command, "--help"]).stdout)
+    usage_errors()
     spellings_of_processes()
     spellings_of_sessions()
     quiet_runs()
@@ -212,7 +220,7 @@ def control_characters():
     rows = (
         (["round", "--lim\x1b[2J"], "error: unexpected argument '--lim\\x1b[2J' found"),
         (["re\nplay"], "error: unrecognized subcommand 're\\x0aplay'"),
-        (["round", "--limit", "1\r0"], "error: invalid value '1\\x0d0' for '--limit <N>': invalid digit found in string"),
+        (["round", "--limit", "1\r0"], "error: invalid value '1\\x0d0' for '--limit <N>': a decimal number is expected"),
         (["spec", "--list", "[]", "--me", "\x7f", "[]"], "error: invalid value '\\x7f' for '--me <N>': a number or a pid <0.N.0> is expected"),
     )
     for words, told in rows:
@@ -222,6 +230,27 @@ def control_characters():
         check(f"the words {words}", good and all(letter == "\n" or letter.isprintable() for letter in text), ran)
     ran = run([*SEND_HI_PICKS, "--quiet", "--expect-line", "h\x1bi"], SEND_HI)
     wants("a line with a control character", ran, 1, SEND_HI_OUTPUT, b"error: the output has no line h\\x1bi\n")
+
+
+def usage_errors():
+    """Words that are refused: of a number what is expected, and no advice to pass an option as a value."""
+    digits = "a decimal number is expected"
+    rows = (
+        (["round", "--limit", "x"], f"error: invalid value 'x' for '--limit <N>': {digits}\n"),
+        (["round", "--limit", ""], f"error: invalid value '' for '--limit <N>': {digits}\n"),
+        (["round", "--max-output", "10k"], f"error: invalid value '10k' for '--max-output <BYTES>': {digits}\n"),
+        (["explain", "--round", "--move", "2-4"], f"error: invalid value '2-4' for '--move <N>': {digits}\n"),
+        (["explain", "--round", "--quiet"], "error: unexpected argument '--quiet' found\n\nUsage: "),
+        (
+            ["replay", "--picks", "0", "0", "100"],
+            "error: unexpected argument '100' found\n\n  tip: picks are one word, as in --picks '0 100 100'\n\nUsage: ",
+        ),
+    )
+    for words, text in rows:
+        ran = run(words, SEND_HI)
+        printed = ran.stderr.decode()
+        good = ran.returncode == 2 and not ran.stdout and printed.startswith(text) and "-- --" not in printed
+        check(f"what is said of the words {words}", good, ran)
 
 
 def spellings_of_processes():

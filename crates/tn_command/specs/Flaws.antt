@@ -66,6 +66,7 @@ IsExplainedFlaw q (explained.Refused r) bytes flawed = IsNoFlaw flawed
 IsExplainedFlaw q explained.NoSession bytes flawed = IsScheduleFlaw q.schedule bytes flawed
 IsExplainedFlaw q explained.NoMove bytes flawed = IsScheduleFlaw q.schedule bytes flawed
 IsExplainedFlaw q explained.NoDifference bytes flawed = IsScheduleFlaw q.schedule bytes flawed
+IsExplainedFlaw q explained.NoMessage bytes flawed = IsScheduleFlaw q.schedule bytes flawed
 
 -- a run that is drawn
 abbrev pub IsDrawnFlaw : DrawRequest → DrawOutcome → List ℕ → Bool → Type 0

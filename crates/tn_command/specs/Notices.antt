@@ -10,7 +10,7 @@ use Rattle.def_moves.specs.Texts.{mover_len, pids_named}
 use Rattle.def_explain.specs.EmptyScripts.{is_gap}
 use Rattle.def_notice.specs.FaultTexts.{FaultSaid, of_reading, of_writing, of_memory, of_workers, of_bytes, of_listings}
 use Rattle.def_notice.specs.MovesTexts.{MovesReason, no_mover, no_number, no_count, no_start, many_starts, no_program, too_many_bytes, no_directive_at, bad_moves_text}
-use Rattle.def_notice.specs.NoticeTexts.{NodeCommand, by_same_picks, by_journal, the_list, the_caller, is_no_list, is_no_function, Notice, of_fault, of_test_text, no_session, no_move, no_node_move, no_forms}
+use Rattle.def_notice.specs.NoticeTexts.{NodeCommand, by_same_picks, by_journal, the_list, the_caller, is_no_list, is_no_function, Notice, of_fault, of_test_text, no_session, no_move, no_node_move, no_chosen_move, no_forms}
 use Rattle.tn_moves.specs.declared.schedule.Schedule.{Schedule}
 use Rattle.tn_moves.specs.declared.schedule.Schedule.TheVariants.{Picks, Moves, Round, ControlFirst}
 use Rattle.tn_moves.specs.declared.text.MovesRefusal.{MovesRefusal}
@@ -54,6 +54,7 @@ notice_of_account (explained.Refused r) name n = None
 notice_of_account explained.NoSession name n = Some (no_session name)
 notice_of_account explained.NoMove name n = Some (no_move n)
 notice_of_account explained.NoDifference name n = Some no_node_move
+notice_of_account explained.NoMessage name n = Some no_chosen_move
 
 -- of a script with these bytes
 abbrev pub notice_of_forms : List ℕ → Option Notice

@@ -11,7 +11,7 @@ use Rattle.tn_term.specs.declared.term.Term.{Term, Tuple, List as ListOf}
 use Rattle.tn_term.specs.Views.{tree_of}
 use Rattle.tn_script.proofs.OfTerms.{list_of_list, tuple_of_tuple}
 use Rattle.def_script.specs.Shapes.{name_in, callee_of, callee_in, both, and_then, list_in, tuple_in}
-use Rattle.def_wording.specs.ShapeTexts.{PartReason, other_count, ShapelessReason, unless_read, by_list, send_step_reason, receive_step_reason, call_step_reason, one_part_reason, create_reason, destroy_reason, three_parts_reason, specified_reason, function_shape_reason, process_shape_reason, control_shape_reason, of_part}
+use Rattle.def_wording.specs.ShapeTexts.{PartReason, other_count, ShapelessReason, unless_read, by_list, send_step_reason, receive_step_reason, call_step_reason, one_part_reason, create_reason, destroy_reason, three_parts_reason, specified_reason, function_shape_reason, command_as_form, process_shape_reason, control_shape_reason, of_part}
 use Rattle.tn_refusal.specs.declared.part_reasons.PartReason as code
 use Rattle.tn_refusal.specs.declared.shape_reasons.ShapelessReason as shapeless
 use Rattle.tn_refusal.specs.ShapeReasons.{part_reasons_seen, shapeless_reasons_seen}
@@ -121,13 +121,29 @@ no_function (a ∷ b ∷ c ∷ d ∷ e ∷ []) h = refl
 no_function (a ∷ b ∷ c ∷ d ∷ e ∷ f ∷ []) h = absurd (h refl)
 no_function (a ∷ b ∷ c ∷ d ∷ e ∷ f ∷ g ∷ ts) h = refl
 
-pub no_process : (ts : List Tree) → length ts ≢ 4 → process_shape_reason ts ≡ Some (other_count (codes "{process,M,F,Args}") 4 (length ts))
-no_process [] h = refl
-no_process (a ∷ []) h = refl
-no_process (a ∷ b ∷ []) h = refl
-no_process (a ∷ b ∷ c ∷ []) h = refl
-no_process (a ∷ b ∷ c ∷ d ∷ []) h = absurd (h refl)
-no_process (a ∷ b ∷ c ∷ d ∷ e ∷ ts) h = refl
+no_process : (ts : List Tree) → length ts ≢ 5 → length ts ≢ 4 → process_shape_reason ts ≡ Some (other_count (codes "{process,M,F,Args}") 4 (length ts))
+no_process [] k h = refl
+no_process (a ∷ []) k h = refl
+no_process (a ∷ b ∷ []) k h = refl
+no_process (a ∷ b ∷ c ∷ []) k h = refl
+no_process (a ∷ b ∷ c ∷ d ∷ []) k h = absurd (h refl)
+no_process (a ∷ b ∷ c ∷ d ∷ e ∷ []) k h = absurd (k refl)
+no_process (a ∷ b ∷ c ∷ d ∷ e ∷ f ∷ ts) k h = refl
+
+pub counted_process : {A : Type 0} (xs : List (Term A)) → length xs ≢ 5 → length xs ≢ 4 → Some (other_count (codes "{process,M,F,Args}") 4 (length xs)) ≡ process_shape_reason (map tree_of xs)
+counted_process xs five four =
+    let same = length-map xs tree_of in
+    sym (no_process (map tree_of xs) (λ e. five (sym same ∙ e)) (λ e. four (sym same ∙ e)) ∙ ap (λ n. Some (other_count (codes "{process,M,F,Args}") 4 n)) same)
+
+-- five elements are those of a command
+pub command_elements : {A : Type 0} (xs : List (Term A)) → length xs ≡ 5 → Some command_as_form ≡ process_shape_reason (map tree_of xs)
+command_elements [] n = absurd (omega (arith, n))
+command_elements (a ∷ []) n = absurd (omega (arith, n))
+command_elements (a ∷ b ∷ []) n = absurd (omega (arith, n))
+command_elements (a ∷ b ∷ c ∷ []) n = absurd (omega (arith, n))
+command_elements (a ∷ b ∷ c ∷ d ∷ []) n = absurd (omega (arith, n))
+command_elements (a ∷ b ∷ c ∷ d ∷ e ∷ []) n = refl
+command_elements (a ∷ b ∷ c ∷ d ∷ e ∷ f ∷ xs) n = absurd (omega (arith, n))
 
 pub no_control : (ts : List Tree) → length ts ≢ 2 → control_shape_reason ts ≡ Some (of_part (other_count (codes "{control,Commands}") 2 (length ts)))
 no_control [] h = refl

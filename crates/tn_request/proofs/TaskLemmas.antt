@@ -35,6 +35,7 @@ account_done q p (explained.Refused r) output h = h
 account_done q p explained.NoSession output h = record { picks = h.picks; given = h.given; so = h.answer }
 account_done q p explained.NoMove output h = record { picks = h.picks; given = h.given; so = h.answer }
 account_done q p explained.NoDifference output h = record { picks = h.picks; given = h.given; so = h.answer }
+account_done q p explained.NoMessage output h = record { picks = h.picks; given = h.given; so = h.answer }
 
 drawing_done : (q : DrawRequest) (p : Program) (o : DrawOutcome) (output : List ℕ) → IsDrawn q p o output → IsDoneBy (drawing_of_request q) p (outcomes.Draw o) output
 drawing_done q p drawn.Drawn output h = record { picks = h.picks; given = h.given; so = h.drawing }

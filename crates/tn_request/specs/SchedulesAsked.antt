@@ -29,6 +29,6 @@ run_asked (ByRound limit control_first) read = round_asked limit control_first
 -- the run of a request, with the text that was read of its picks or its moves
 abbrev pub schedule_asked : RunRequest → (read : List ℕ) → ScheduleView
 schedule_asked (Replay script picks quiet e) read = picks_asked picks read
-schedule_asked (Explain script run filter e) read = run_asked run read
+schedule_asked (Explain script run filter message e) read = run_asked run read
 schedule_asked (Draw script run format e) read = run_asked run read
 schedule_asked (Round script limit control_first quiet e) read = round_asked limit control_first

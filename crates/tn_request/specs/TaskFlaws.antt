@@ -32,6 +32,7 @@ IsAccountFlaw a (explained.Refused r) bytes flawed = IsNoFlaw flawed
 IsAccountFlaw a explained.NoSession bytes flawed = IsFlawOf a bytes flawed
 IsAccountFlaw a explained.NoMove bytes flawed = IsFlawOf a bytes flawed
 IsAccountFlaw a explained.NoDifference bytes flawed = IsFlawOf a bytes flawed
+IsAccountFlaw a explained.NoMessage bytes flawed = IsFlawOf a bytes flawed
 
 -- of a run that is drawn
 abbrev pub IsDrawingFlaw : ScheduleView → DrawOutcome → List ℕ → Bool → Type 0

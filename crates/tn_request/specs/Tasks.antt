@@ -3,7 +3,7 @@
 use Rattle.std.specs.Prelude.{◌≡◌, ℕ, ◌||◌, Bool, not, List, Option, None}
 use Rattle.def_script.specs.Program.{Program}
 use Rattle.def_script.specs.Script.{Refusal}
-use Rattle.def_running_node.specs.NodeNotes.{Question}
+use Rattle.def_message_choice.specs.ChosenAccounts.{AccountQuestion}
 use Rattle.tn_formats.specs.declared.format.Format.{Format}
 use Rattle.tn_moves.specs.Schedules.{ScheduleView, HasPicks, OfPicks, schedule_seen}
 use Rattle.tn_run.specs.Answers.{IsRefusedRun}
@@ -14,7 +14,7 @@ use Rattle.tn_replay.specs.declared.replay.Replay.{Replay}
 use Rattle.tn_replay.specs.declared.replay.ReplayOutcome.{ReplayOutcome}
 use Rattle.tn_replay.specs.declared.replay.ReplayOutcome.TheVariants as replays
 use Rattle.tn_explain.specs.Accounts.{IsAnswer, explain_refusal, is_account}
-use Rattle.tn_explain.specs.Filters.{question_seen}
+use Rattle.tn_explain.specs.Filters.{account_question_seen}
 use Rattle.tn_explain.specs.declared.request.ExplainRequest.{ExplainRequest}
 use Rattle.tn_explain.specs.declared.request.ExplainOutcome.{ExplainOutcome}
 use Rattle.tn_explain.specs.declared.request.ExplainOutcome.TheVariants as explained
@@ -37,7 +37,7 @@ use Rattle.tn_request.specs.declared.request.RunRequest.TheVariants as requests
 -- a run is listed, with its notes or without, and says them or not; it is explained, as far as is asked; or it is drawn
 pub data Task : Type 0 where
   listing_task : ScheduleView → (has_notes quiet : Bool) → Task
-  account_task : ScheduleView → Question → Task
+  account_task : ScheduleView → AccountQuestion → Task
   drawing_task : ScheduleView → PictureFormat → Task
 
 abbrev pub task_schedule : Task → ScheduleView
@@ -48,7 +48,7 @@ task_schedule (drawing_task a format) = a
 -- what a request asks for, with the text that was read of its picks or its moves: a run has notes where they are said, or where a strict command line asks whether its commands were done
 abbrev pub task_asked : RunRequest → (read : List ℕ) → Task
 task_asked (requests.Replay script picks quiet e) read = listing_task (picks_asked picks read) (not quiet || e.strict) quiet
-task_asked (requests.Explain script run filter e) read = account_task (run_asked run read) (question_seen filter)
+task_asked (requests.Explain script run filter message e) read = account_task (run_asked run read) (account_question_seen filter message)
 task_asked (requests.Draw script run format e) read = drawing_task (run_asked run read) format
 task_asked (requests.Round script limit control_first quiet e) read = listing_task (round_asked limit control_first) (not quiet || e.strict) quiet
 
@@ -57,7 +57,7 @@ abbrev pub listing_of_replay : Replay → Task
 listing_of_replay q = listing_task (schedule_seen q.schedule) q.has_notes q.quiet
 
 abbrev pub account_of_request : ExplainRequest → Task
-account_of_request q = account_task (schedule_seen q.schedule) (question_seen q.filter)
+account_of_request q = account_task (schedule_seen q.schedule) (account_question_seen q.filter q.message)
 
 abbrev pub drawing_of_request : DrawRequest → Task
 drawing_of_request q = drawing_task (schedule_seen q.schedule) q.format
@@ -75,12 +75,13 @@ WritesListing a has_notes p (replays.Listed notes) output = OfPicks a p (λ pick
 WritesListing a has_notes p (replays.Refused r) output = IsRefusedRun a p r output
 
 -- the account of its run by the picks that are asked, as far as is asked
-abbrev pub WritesAccount : ScheduleView → Question → Program → ExplainOutcome → List ℕ → Type 0
+abbrev pub WritesAccount : ScheduleView → AccountQuestion → Program → ExplainOutcome → List ℕ → Type 0
 WritesAccount a q p explained.Account output = OfPicks a p (λ picks. IsAnswer p picks q explained.Account output)
 WritesAccount a q p (explained.Refused r) output = IsRefusedRun a p r output
 WritesAccount a q p explained.NoSession output = OfPicks a p (λ picks. IsAnswer p picks q explained.NoSession output)
 WritesAccount a q p explained.NoMove output = OfPicks a p (λ picks. IsAnswer p picks q explained.NoMove output)
 WritesAccount a q p explained.NoDifference output = OfPicks a p (λ picks. IsAnswer p picks q explained.NoDifference output)
+WritesAccount a q p explained.NoMessage output = OfPicks a p (λ picks. IsAnswer p picks q explained.NoMessage output)
 
 -- the picture of its run by the picks that are asked
 abbrev pub WritesDrawing : ScheduleView → PictureFormat → Program → DrawOutcome → List ℕ → Type 0
@@ -126,7 +127,7 @@ task_job task = record {
 -- a picture has a format of its own
 abbrev pub format_asked : RunRequest → Option Format → Option Format
 format_asked (requests.Replay script picks quiet e) format = format
-format_asked (requests.Explain script run filter e) format = format
+format_asked (requests.Explain script run filter message e) format = format
 format_asked (requests.Draw script run picture e) format = None
 format_asked (requests.Round script limit control_first quiet e) format = format
 

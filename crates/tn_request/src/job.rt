@@ -4,15 +4,17 @@ ghost use Rattle.tn_moves.specs.Schedules.{IsSpelledBy, schedule_seen};
 ghost use Rattle.tn_program.specs.Views.{program_of};
 ghost use Rattle.tn_run.specs.Jobs.{IsAnswerWithin, IsOfNoEnd, IsProgramAnswer};
 ghost use Rattle.tn_request.specs.Tasks.{account_of_request, drawing_of_request, listing_of_replay};
-ghost use Rattle.tn_request.specs.Tasks.{format_asked, listing_task, task_asked, task_job, task_seen};
+ghost use Rattle.tn_request.specs.Tasks.{account_task, format_asked, listing_task, task_asked, task_job, task_seen};
+ghost use Rattle.tn_explain.specs.Filters.{account_question_seen};
 
 use crate::request::RunRequest;
 use crate::schedule::schedule_of;
 use std::alloc::{Allocator, Global};
 use tn_command::{Command, NamedText, run_fault};
-use tn_explain::{ExplainOutcome, ExplainRequest};
+use tn_explain::{ExplainOutcome, ExplainRequest, Filter};
 use tn_formats::Format;
 use tn_listing::PicksFault;
+use tn_message_choice::MessageChoice;
 use tn_moves::Schedule;
 use tn_notice::CommandFault;
 use tn_picture::{DrawOutcome, DrawRequest};
@@ -47,6 +49,22 @@ fn listing_job(schedule: Schedule<'_>, quiet: bool, strict: bool) -> RequestJob<
     })
 }
 
+/// The explanation of a run, as far as is asked.
+fn explain_job<'a>(
+    schedule: Schedule<'a>,
+    filter: Filter<'a>,
+    message: Option<MessageChoice<'a>>,
+) -> RequestJob<'a>
+    ensures { task_seen result ≡
+        account_task (schedule_seen schedule.entry) (account_question_seen filter.entry message.entry) }
+{
+    RequestJob::Explain(ExplainRequest {
+        schedule,
+        filter,
+        message,
+    })
+}
+
 /// The job of a request, with the text that was read of its picks or its moves.
 pub fn job_of<'a>(request: &RunRequest<'a>, read: &'a [u8]) -> RequestJob<'a>
     ensures { task_seen result ≡ task_asked request.now read.now }
@@ -58,9 +76,11 @@ pub fn job_of<'a>(request: &RunRequest<'a>, read: &'a [u8]) -> RequestJob<'a>
             expectation,
             ..
         } => listing_job(schedule, quiet, expectation.strict),
-        RunRequest::Explain { filter, .. } => {
-            RequestJob::Explain(ExplainRequest { schedule, filter })
-        }
+        RunRequest::Explain {
+            filter,
+            message,
+            ..
+        } => explain_job(schedule, filter, message),
         RunRequest::Draw { format, .. } => RequestJob::Draw(DrawRequest { schedule, format }),
         RunRequest::Round {
             quiet,

@@ -1,11 +1,14 @@
-use Rattle.std.proofs.Common.{◌∙◌, codes, refl}
+use Rattle.std.proofs.Common.{◌∙◌, refl}
 use Rattle.std.specs.Option.{option_or}
 use Rattle.def_wording.specs.ShapeTexts.{names_reason, arguments_reason, process_shape_reason}
-use Rattle.tn_refusal.proofs.ShapeReasons.{of_four, counted, no_process, or_seen}
+use Rattle.tn_refusal.proofs.ShapeReasons.{of_four, counted_process, command_elements, or_seen}
 use Rattle.tn_refusal.proofs.shape_reasons.process_reason.Goals as goal
 
+pub returns-then-fields-eq5 : goal.returns-then-fields-eq5
+returns-then-fields-eq5 g c = command_elements c.args.fields.now c.if-fields-eq5.true
+
 pub returns-then-fields-ne4 : goal.returns-then-fields-ne4
-returns-then-fields-ne4 g c = counted process_shape_reason (λ r. r) (codes "{process,M,F,Args}") 4 no_process c.args.fields.now c.if-fields-ne4.true
+returns-then-fields-ne4 g c = counted_process c.args.fields.now c.if-fields-eq5.false c.if-fields-ne4.true
 
 pub returns : goal.returns
 returns g c =
