@@ -1,6 +1,6 @@
 -- The exploration that a request asks for, and the exit status of a request (own).
 -- Depends on what is asked of all schedules, and on the exit status of a command.
-use Rattle.std.specs.Prelude.{◌≡◌, ◌⊎◌, ◌++◌, ℕ, false, List, codes}
+use Rattle.std.specs.Prelude.{◌≡◌, ◌⊎◌, ◌++◌, ℕ, List, codes}
 use Rattle.std.specs.declared.alloc.Global.{Global}
 use Rattle.def_explore.specs.Words as words
 use Rattle.tn_answers.specs.declared.text.SearchQuestion.{SearchQuestion}
@@ -23,7 +23,7 @@ pub record IsExplorationAsked (args : ExploreArgs) (asked : SearchQuestion Globa
   pub session : q.session ≡ args.session
   pub question : q.question ≡ asked
   pub max_states : q.max_states ≡ args.max_states
-  pub whole : q.reduces ≡ false
+  pub reduces : q.reduces ≡ args.reduces
   pub random : q.random ≡ args.random
   pub form : q.form ≡ args.form
 
