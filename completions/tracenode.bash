@@ -18,7 +18,7 @@ _tracenode() {
         *,=) before=${COMP_WORDS[COMP_CWORD - 1]} word= ;;
     esac
     if [ "$COMP_CWORD" -eq 1 ]; then
-        words='run replay round workers explain draw spec fun explore compare serve help -h --help -V --version'
+        words='run replay round workers explain state draw spec fun explore compare serve help -h --help -V --version'
         case ${COMP_WORDS[0]} in
             */*) words+=' --prove --install --release' ;;
         esac
@@ -27,9 +27,9 @@ _tracenode() {
         return
     else
         case $before in
-            --picks | --moves | --after | --limit | --max-states | --n | -n | --turns | --spread | --session | --move | --list | --me | --caller) return ;;
+            --picks | --moves | --after | --limit | --max-states | --n | -n | --turns | --spread | --session | --move | --at | --list | --me | --caller) return ;;
             --expect-session | --expect-line | --reject-line | --max-output) return ;;
-            --shows | --always | --never | --sometimes) return ;;
+            --shows | --always | --never | --sometimes | --message | --why-not) return ;;
             --for)
                 COMPREPLY=($(compgen -W 'call send receive' -- "$word"))
                 return
@@ -42,7 +42,7 @@ _tracenode() {
                 COMPREPLY=($(compgen -W 'process total' -- "$word"))
                 return
                 ;;
-            --picks-file | --moves-file | --expect | --file | --trace | --install | --release)
+            --picks-file | --moves-file | --expect | --file | --trace | -o | --output | --install | --release)
                 _tracenode_files "$word"
                 return
                 ;;
@@ -50,42 +50,46 @@ _tracenode() {
         case $command in
             run)
                 words='--limit -q --quiet --summary --json --expect-session'
-                words+=' --expect --expect-line --reject-line --strict --max-output -h --help'
+                words+=' --expect --expect-line --reject-line --strict --max-output -o --output -h --help'
                 ;;
             replay)
                 words='--picks --picks-file --moves --moves-file -q --quiet --summary --json --expect-session'
-                words+=' --expect --expect-line --reject-line --strict --max-output -h --help'
+                words+=' --expect --expect-line --reject-line --strict --max-output -o --output -h --help'
                 ;;
             round)
                 words='--limit --control -q --quiet --summary --json --expect-session'
-                words+=' --expect --expect-line --reject-line --strict --max-output -h --help'
+                words+=' --expect --expect-line --reject-line --strict --max-output -o --output -h --help'
                 ;;
             workers)
                 words='-n --n --turns --spread -q --quiet --summary --json --expect-session'
-                words+=' --expect --expect-line --reject-line --strict --max-output -h --help'
+                words+=' --expect --expect-line --reject-line --strict --max-output -o --output -h --help'
                 ;;
             explain)
                 words='--picks --picks-file --moves --moves-file --round --limit --control --session --move --node'
-                words+=' --json --expect --expect-line --reject-line --strict --max-output -h --help'
+                words+=' --message --why-not --json --expect --expect-line --reject-line --strict --max-output -o --output -h --help'
+                ;;
+            state)
+                words='--picks --picks-file --moves --moves-file --round --limit --control --at --session'
+                words+=' --json --expect --expect-line --reject-line --strict --max-output -o --output -h --help'
                 ;;
             draw)
                 words='--picks --picks-file --moves --moves-file --round --limit --control --text'
-                words+=' --expect --expect-line --reject-line --strict --max-output -h --help'
+                words+=' --expect --expect-line --reject-line --strict --max-output -o --output -h --help'
                 ;;
             spec) words='--list --for --me --caller --json --file --fun -h --help' ;;
             fun) words='--for --pretty -h --help' ;;
             explore) words='--after --control --order --session --summary --json --shows --always --never --sometimes'
-                words+=' --random --seed --max-states --max-output -h --help' ;;
+                words+=' --random --seed --max-states --max-output -o --output -h --help' ;;
             compare) words='--trace --prefix --after --control --order --session --json'
-                words+=' --max-states --max-output -h --help' ;;
+                words+=' --max-states --max-output -o --output -h --help' ;;
             serve) words='-h --help' ;;
-            help) words='run replay round workers explain draw spec fun explore compare serve' ;;
+            help) words='run replay round workers explain state draw spec fun explore compare serve' ;;
         esac
     fi
     COMPREPLY=($(compgen -W "$words" -- "$word"))
     [ "$COMP_CWORD" -gt 1 ] || return
     case $command in
-        run | replay | round | workers | explain | draw | explore | compare) _tracenode_files "$word" ;;
+        run | replay | round | workers | explain | state | draw | explore | compare) _tracenode_files "$word" ;;
     esac
 }
 

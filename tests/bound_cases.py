@@ -1,4 +1,7 @@
 """Cases of outputs that are longer than they may be, and of runs that need more memory than the shell lets them have."""
+import tempfile
+from pathlib import Path
+
 from format_cases import SEND_HI_JSON, SEND_HI_MOVE, SEND_HI_SUMMARY
 from harness import EMPTY, NO_FORMS, PROGRAM, SEND_HI, SEND_HI_OUTPUT, SEND_HI_PICKS, check, run, wants
 
@@ -163,3 +166,34 @@ def little_memory():
     wants("a small output in little memory", run(QUIET, SEND_HI, command=limited), 0, SEND_HI_OUTPUT, b"")
     for words in (words, ["round"], ["explain", *moves], ["draw", *moves]):
         wants(f"{words[0]} in little memory", run(words, LARGE, command=limited), 3, b"", b"fault memory\n")
+
+
+def folder_holds(name, folder, files):
+    """A folder has just these files with these bytes."""
+    seen = {path.name: path.read_bytes() for path in folder.iterdir()}
+    check(name, seen == files, seen)
+
+
+def output_files():
+    """The output goes to the file of --output, whole or not at all."""
+    with tempfile.TemporaryDirectory() as made:
+        folder = Path(made)
+        path = folder / "output.txt"
+        for words, output in KNOWN:
+            name = " ".join(words)
+            wants(f"{name} to a file", run([*words, "-o", str(path)], SEND_HI), 0, b"", b"")
+            folder_holds(f"the file of {name}", folder, {"output.txt": output})
+        unmet = run([*QUIET, f"--output={path}", "--expect-line", "none"], SEND_HI)
+        wants("an output to a file that isn't as expected", unmet, 1, b"", b"error: the output has no line none\n")
+        folder_holds("its file", folder, {"output.txt": SEND_HI_OUTPUT})
+        refused = run([*QUIET, "-o", str(path)], b"[")
+        check("a refusal in place of a file", refused.returncode == 2 and refused.stdout.startswith(b"refused 2"), refused)
+        wants("a long output in place of a file", run([*QUIET, "-o", str(path), "--max-output", "112"], SEND_HI), 3, b"", fault_of(113, 112))
+        folder_holds("the file after both", folder, {"output.txt": SEND_HI_OUTPUT})
+        nowhere = folder / "none" / "output.txt"
+        line = f"error: {nowhere}: No such file or directory (os error 2)\n".encode()
+        wants("a file in no folder", run([*QUIET, "-o", str(nowhere)], SEND_HI), 3, b"", line)
+        (folder / "full").mkdir()
+        line = f"error: {folder / 'full'}: Is a directory (os error 21)\n".encode()
+        wants("a folder as the file", run([*QUIET, "-o", str(folder / "full")], SEND_HI), 3, b"", line)
+        check("no part of it is left", sorted(each.name for each in folder.iterdir()) == ["full", "output.txt"], list(folder.iterdir()))

@@ -148,7 +148,7 @@ def command_lines():
         wants(f"version by {word}", run([word]), 0, f"tracenode {said_version()}\n".encode() + logic)
     for word in ("--help", "-h"):
         ran = run([word])
-        names = (b"run", b"replay", b"round", b"workers", b"explain", b"draw", b"spec", b"Examples:", b"Exit status:", b"A pick says")
+        names = (b"run", b"replay", b"round", b"workers", b"explain", b"state", b"draw", b"spec", b"Examples:", b"Exit status:", b"A pick says")
         good = ran.returncode == 0 and all(name in ran.stdout for name in names)
         check(f"help by {word}", good and not ran.stderr, ran)
     wrong = {
@@ -180,6 +180,13 @@ def command_lines():
         "a flag twice": ["replay", "--picks", "0", "--quiet", "--quiet"],
         "a replay with the flag of explanations": ["replay", "--picks", "0", "--node"],
         "a round with the flag of explanations": ["round", "--node"],
+        "a replay with the message of explanations": ["replay", "--picks", "0", "--message", "'_'"],
+        "a message that is sent and isn't": ["explain", "--picks", "0", "--message", "'_'", "--why-not", "'_'"],
+        "a message and a move": ["explain", "--picks", "0", "--message", "'_'", "--move", "1"],
+        "a message and a node": ["explain", "--picks", "0", "--message", "'_'", "--node"],
+        "a missing message and a move": ["explain", "--picks", "0", "--move", "1", "--why-not", "'_'"],
+        "a missing message and a node": ["explain", "--picks", "0", "--node", "--why-not", "'_'"],
+        "a message without a pattern": ["explain", "--picks", "0", "--message"],
     }
     for name, words in wrong.items():
         ran = run(words, SEND_HI)

@@ -22,7 +22,7 @@ from harness import SECONDS, START, TOP, check, run
 # The options of ./tracenode, which are not the program's.
 STARTS = {"--prove", "--install", "--release"}
 
-COMMANDS = (("run",), ("replay",), ("round",), ("workers",), ("explain",), ("draw",), ("spec",), ("fun",), ("explore",), ("compare",), ("serve",))
+COMMANDS = (("run",), ("replay",), ("round",), ("workers",), ("explain",), ("state",), ("draw",), ("spec",), ("fun",), ("explore",), ("compare",), ("serve",))
 
 
 def documents():
@@ -78,6 +78,8 @@ OF_OTHER_SHELLS = (
     ("tracenode expl", "explain"),
     ("tracenode --ver", "--version"),
     ("tracenode explain --no", "--node"),
+    ("tracenode explain --mes", "--message"),
+    ("tracenode explain --why", "--why-not"),
     ("tracenode explain --q", None),
     ("tracenode replay --q", "--quiet"),
     ("tracenode round --q", "--quiet"),
@@ -164,6 +166,7 @@ def completions():
             (("tracenode", "explain", "--m"), ["--max-output", "--move", "--moves", "--moves-file"]),
             (("tracenode", "ru"), ["run"]),
             (("tracenode", "run", "--l"), ["--limit"]),
+            (("tracenode", "state", "--a"), ["--at"]),
             (("tracenode", "draw", "--r"), ["--reject-line", "--round"]),
             (("tracenode", "draw", "--m"), ["--max-output", "--moves", "--moves-file"]),
             (("tracenode", "round", "--m"), ["--max-output"]),
@@ -172,6 +175,8 @@ def completions():
             (("tracenode", "round", "--control", ""), ["first"]),
             (("tracenode", "replay", "--moves-file", "scripts/twi"), ["scripts/twice.term"]),
             (("tracenode", "explain", "--n"), ["--node"]),
+            (("tracenode", "explain", "--m"), ["--max-output", "--message", "--move", "--moves", "--moves-file"]),
+            (("tracenode", "explain", "--w"), ["--why-not"]),
             (("tracenode", "explain", "--q"), [""]),
             (("tracenode", "explain", "--j"), ["--json"]),
             (("tracenode", "replay", "--q"), ["--quiet"]),

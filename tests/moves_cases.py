@@ -142,8 +142,8 @@ def bad_moves():
         "0\n\u00e9": f"2:1: {none.format('??')}{here}",
     }
     for text, told in rows.items():
-        for command in ("replay", "explain", "draw"):
-            wants(f"{command} by {text!r}", run([command, "--moves", text], NUMBERS), 2, b"", f"moves:{told}".encode())
+        for words in (["replay"], ["explain"], ["state", "--at", "0"], ["draw"]):
+            wants(f"{words[0]} by {text!r}", run([*words, "--moves", text], NUMBERS), 2, b"", f"moves:{told}".encode())
     told = b"moves:1:3: several initial processes start in a function f: <0.100.0>, <0.102.0>\n"
     wants("a name of two processes", run(["replay", "--moves", "0 f!"], NAMES), 2, b"", told)
     for command in ("replay", "draw"):

@@ -31,6 +31,7 @@ import mistake_cases
 import run_cases
 import serve_cases
 import specification_cases
+import state_cases
 import text_cases
 
 SUBJECTS = {
@@ -57,7 +58,13 @@ SUBJECTS = {
         text_cases.numbers,
         text_cases.numbers_in_terms,
     ),
-    "explanation": (explanation_cases.explanations, explanation_cases.limits, explanation_cases.differences),
+    "explanation": (
+        explanation_cases.explanations,
+        explanation_cases.limits,
+        explanation_cases.differences,
+        explanation_cases.choices,
+    ),
+    "state": (state_cases.states, state_cases.state_ends),
     "picture": (picture_cases.pictures, picture_cases.drawings, picture_cases.life_lines, picture_cases.columns),
     "mistake": (mistake_cases.mistakes,),
     "specification": (
@@ -106,6 +113,7 @@ SUBJECTS = {
     ),
     "bound": (
         bound_cases.bounds,
+        bound_cases.output_files,
         bound_cases.refusals_in_bounds,
         bound_cases.bad_bounds,
         bound_cases.endless_outputs,

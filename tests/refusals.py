@@ -27,6 +27,11 @@ SHAPES = (
     ("{function,m,f,exported,['X','Y','X'],[]}", "Params must be distinct, found 'X'"),
     ("{function,m,f,exported,[],x}", "Steps must be a list, found x"),
     ("{process,m,f}", "{process,M,F,Args} has 4 elements, found 3"),
+    (
+        "{process,s,all,true,[send]}",
+        "{process,M,F,Args} has 4 elements, and the command {process,S,Procs,How,Flags} stands in"
+        " {control,[Command,..]}, found 5",
+    ),
     ("{process,1,f,[]}", "M" + NAME + "1"),
     ("{process,m,'F',[]}", "F" + NAME + "'F'"),
     ("{process,m,f,a}", "Args must be a list, found a"),
@@ -281,7 +286,7 @@ REFUSALS = [
     ),
     (
         "{function,m,f,exported,['X'],[{'catch','_',{m,f},[]}]}.",
-        "script.term:1:31: form 1: wrong number of arguments: function m:f/0 is declared with 1 arguments, in step 1",
+        "script.term:1:31: form 1: wrong number of arguments: function m:f/0 is declared with the arity 1 alone, in step 1",
     ),
     (
         "{function,m,f,exported,[],[{catch,'X',{m,f},[]}]}.",
@@ -302,7 +307,7 @@ REFUSALS = [
     ),
     (
         "{function,m,f,exported,[],[]}.\n{function,m,f,exported,['X'],[]}.\n{process,m,f,[1,2]}.",
-        "script.term:3: form 3: wrong number of arguments: function m:f/2 is declared with 0 or 1 arguments",
+        "script.term:3: form 3: wrong number of arguments: function m:f/2 is declared with the arity 0 or 1 alone",
     ),
     (
         "{control,[{session_create,a,t,[]}]}.\n{control,[{session_create,a,u,[]}]}.",

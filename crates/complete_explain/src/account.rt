@@ -3,6 +3,7 @@ ghost use Rattle.std.specs.Prelude.{◌≡◌, IfOk, OnOk, OnErr};
 
 use std::alloc::{AllocError, Allocator};
 use tn_explain::{ExplainOutcome, Filter, account_of, put_account};
+use tn_message_choice::MessageChoice;
 use tn_moves::Plan;
 use tn_program::Program;
 
@@ -12,6 +13,7 @@ pub struct ExplainedProgram<'a, A: Allocator> {
     pub program: &'a Program<A>,
     pub plan: &'a Plan<'a, A>,
     pub filter: Filter<'a>,
+    pub message: Option<MessageChoice<'a>>,
 }
 
 /// `tn_explain::account_of` has one outcome and one text.
@@ -25,8 +27,8 @@ pub fn outcome<A: Allocator + Copy>(
     ensures { IfOk result.0 (λ x. IfOk result.1 (λ y. (x.0 ≡ y.0) × (x.1.items ≡ y.1.items))) }
 {
     (
-        account_of(alloc, of.program, of.plan, &of.filter),
-        account_of(alloc, of.program, of.plan, &of.filter),
+        account_of(alloc, of.program, of.plan, &of.filter, of.message),
+        account_of(alloc, of.program, of.plan, &of.filter, of.message),
     )
 }
 

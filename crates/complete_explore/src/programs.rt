@@ -1,5 +1,5 @@
 // The search through all schedules of a program.
-ghost use Rattle.std.specs.Prelude.{◌≡◌, IfOk};
+ghost use Rattle.std.specs.Prelude.{◌≡◌, false, IfOk};
 ghost use Rattle.tn_messages.specs.MessageViews.{kept_seen};
 ghost use Rattle.tn_program.specs.Views.{program_of};
 ghost use Rattle.complete_explore.specs.Explorations.{ExploreAlike};
@@ -21,7 +21,8 @@ pub fn explore_program<A: Allocator + Copy, F: RunFilter<A>>(
     filter: &F,
     plan: &SearchPlan<'_>,
 ) -> (ProgramResult<A>, ProgramResult<A>)
-    requires { program_of programs.0.now ≡ program_of programs.1.now }
+    requires programs { program_of programs.0.now ≡ program_of programs.1.now }
+    requires whole { F.leaves_out filter.now ≡ false }
     ensures { IfOk result.0 (λ e. IfOk result.1 (ExploreAlike kept_seen e)) }
 {
     let first = tn_search::explore_program(alloc, programs.0, filter, plan);

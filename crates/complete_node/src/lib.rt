@@ -8,3 +8,4 @@ mod function;
 mod functions;
 mod node;
 mod process;
+mod view;

@@ -1,11 +1,14 @@
 // The node, as a run sees it.
-ghost use Rattle.std.specs.Prelude.{◌≡◌, None, IfOk, IsErr, OnErr};
+ghost use Rattle.std.specs.Prelude.{◌≡◌, None, IfOk, IsErr, OnErr, map};
+ghost use Rattle.std.specs.Option.{option_map};
 ghost use Rattle.tn_program.specs.Views.{program_of};
 ghost use Rattle.tn_node.specs.Nodes.{moved_seen};
 ghost use Rattle.tn_node.specs.Outlooks.{outlook_seen};
+ghost use Rattle.tn_node.specs.Worlds.{slot_of};
 
 use std::alloc::{AllocError, Allocator};
 use tn_node::{Moved, Node, Outlook};
+use tn_process::Process;
 use tn_program::Program;
 
 /// `tn_node::Node::new` has one answer.
@@ -68,4 +71,29 @@ pub fn nothing() -> (Outlook, Outlook)
     ensures { outlook_seen result.0 ≡ outlook_seen result.1 }
 {
     (Outlook::nothing(), Outlook::nothing())
+}
+
+/// `tn_node::Node::processes` has one answer.
+pub fn processes<'a, A: Allocator + Copy>(
+    one: &'a Node<A>,
+    other: &'a Node<A>,
+) -> (
+    Option<&'a [Option<Process<A>>]>,
+    Option<&'a [Option<Process<A>>]>,
+)
+    requires { one.now ≡ other.now }
+    ensures { option_map (λ ss. map slot_of ss.now) result.0 ≡ option_map (λ ss. map slot_of ss.now) result.1 }
+{
+    (one.processes(), other.processes())
+}
+
+/// `tn_node::Node::commands_taken` has one answer.
+pub fn commands_taken<A: Allocator + Copy>(
+    one: &Node<A>,
+    other: &Node<A>,
+) -> (Option<usize>, Option<usize>)
+    requires { one.now ≡ other.now }
+    ensures { result.0 ≡ result.1 }
+{
+    (one.commands_taken(), other.commands_taken())
 }

@@ -33,4 +33,5 @@ pub mod Remarks
 mod RemarkRows
 pub mod EmptyScripts
 pub mod NearestFunctions
+mod NearNames
 mod Limits

@@ -4,7 +4,8 @@ use Rattle.std.specs.Option.{option_or}
 use Rattle.def_term.specs.Names.{Name, Mfa}
 use Rattle.def_explain.specs.Lists.{One}
 use Rattle.def_explain.specs.CommandReasons.{IsTaken}
-use Rattle.def_explain.specs.NearestFunctions.{has_module, has_name, has_both, first_function, nearest_to}
+use Rattle.def_explain.specs.NearNames.{is_near}
+use Rattle.def_explain.specs.NearestFunctions.{has_module, has_name, has_both, has_near_name, first_function, nearest_in_module, nearest_to}
 use Rattle.def_explain.specs.ReasonLaws.{IsAlike, IsNearest, NearestIsThere, SomeNearestWhereAlike}
 use Rattle.def_explain.proofs.SpecReasons.{none-some}
 
@@ -73,15 +74,19 @@ module _ (m g : Name) where
   as-nearest test ks f alike e = one-map (Passes test f) (IsNearest m g f) ks (λ k p. (p.0, alike p.1)) (first-is test ks f e)
 
   nearest-there : (ks : List (Mfa × Bool)) (f : Mfa) → nearest_to m g ks ≡ Some f → One (IsNearest m g f) ks
-  nearest-there ks f e = of-both (first-or (first_function (has_both m g) ks) (option_or (first_function (has_name g) ks) (first_function (has_module m) ks)) f e)
+  nearest-there ks f e = of-both (first-or (first_function (has_both m g) ks) (option_or (first_function (has_name g) ks) (nearest_in_module m g ks)) f e)
     where
-      of-name : (first_function (has_name g) ks ≡ Some f) ⊎ (first_function (has_module m) ks ≡ Some f) → One (IsNearest m g f) ks
-      of-name (inl h) = as-nearest (has_name g) ks f (or-right (has_module m f) (has_name g f)) h
-      of-name (inr h) = as-nearest (has_module m) ks f (or-left (has_module m f) (has_name g f)) h
+      of-module : (first_function (has_near_name m g) ks ≡ Some f) ⊎ (first_function (has_module m) ks ≡ Some f) → One (IsNearest m g f) ks
+      of-module (inl h) = as-nearest (has_near_name m g) ks f (λ b. or-left (has_module m f) (has_name g f) (and-first (has_module m f) (is_near g f.function_name) b)) h
+      of-module (inr h) = as-nearest (has_module m) ks f (or-left (has_module m f) (has_name g f)) h
 
-      of-both : (first_function (has_both m g) ks ≡ Some f) ⊎ (option_or (first_function (has_name g) ks) (first_function (has_module m) ks) ≡ Some f) → One (IsNearest m g f) ks
+      of-name : (first_function (has_name g) ks ≡ Some f) ⊎ (nearest_in_module m g ks ≡ Some f) → One (IsNearest m g f) ks
+      of-name (inl h) = as-nearest (has_name g) ks f (or-right (has_module m f) (has_name g f)) h
+      of-name (inr h) = of-module (first-or (first_function (has_near_name m g) ks) (first_function (has_module m) ks) f h)
+
+      of-both : (first_function (has_both m g) ks ≡ Some f) ⊎ (option_or (first_function (has_name g) ks) (nearest_in_module m g ks) ≡ Some f) → One (IsNearest m g f) ks
       of-both (inl h) = as-nearest (has_both m g) ks f (λ b. or-left (has_module m f) (has_name g f) (and-first (has_module m f) (has_name g f) b)) h
-      of-both (inr h) = of-name (first-or (first_function (has_name g) ks) (first_function (has_module m) ks) f h)
+      of-both (inr h) = of-name (first-or (first_function (has_name g) ks) (nearest_in_module m g ks) f h)
 
   split : (ks : List (Mfa × Bool)) → One (λ k. IsAlike m g k.0) ks → One (λ k. has_module m k.0 ≡ true) ks ⊎ One (λ k. has_name g k.0 ≡ true) ks
   split [] h = absurd h
@@ -97,11 +102,11 @@ module _ (m g : Name) where
       go (inr b) = inr (inr b)
 
   some-nearest : (ks : List (Mfa × Bool)) → One (λ k. IsAlike m g k.0) ks → IsTaken (nearest_to m g ks)
-  some-nearest ks h = taken-second (first_function (has_both m g) ks) (option_or (first_function (has_name g) ks) (first_function (has_module m) ks)) (go (split ks h))
+  some-nearest ks h = taken-second (first_function (has_both m g) ks) (option_or (first_function (has_name g) ks) (nearest_in_module m g ks)) (go (split ks h))
     where
-      go : One (λ k. has_module m k.0 ≡ true) ks ⊎ One (λ k. has_name g k.0 ≡ true) ks → IsTaken (option_or (first_function (has_name g) ks) (first_function (has_module m) ks))
-      go (inl a) = taken-second (first_function (has_name g) ks) (first_function (has_module m) ks) (first-there (has_module m) ks a)
-      go (inr b) = taken-first (first_function (has_name g) ks) (first_function (has_module m) ks) (first-there (has_name g) ks b)
+      go : One (λ k. has_module m k.0 ≡ true) ks ⊎ One (λ k. has_name g k.0 ≡ true) ks → IsTaken (option_or (first_function (has_name g) ks) (nearest_in_module m g ks))
+      go (inl a) = taken-second (first_function (has_name g) ks) (nearest_in_module m g ks) (taken-second (first_function (has_near_name m g) ks) (first_function (has_module m) ks) (first-there (has_module m) ks a))
+      go (inr b) = taken-first (first_function (has_name g) ks) (nearest_in_module m g ks) (first-there (has_name g) ks b)
 
 pub nearest_is_there : NearestIsThere
 nearest_is_there m g ks f e = nearest-there m g ks f e

@@ -129,6 +129,14 @@ pub slip : by_conditions (calls "=>" (word "$1" ∷ number 5 ∷ []) ∷ []) ≡
 unfolding is_written_bare digits
 slip = refl
 
+pub slip_of_words : by_conditions (calls "gt" (word "$1" ∷ number 0 ∷ []) ∷ []) ≡ says "clause 1: condition 1: no function gt; '>' is meant?"
+unfolding is_written_bare digits
+slip_of_words = refl
+
+pub no_tracer : by_body for_calls (calls "trace" (brackets [] ∷ brackets (calls "tracer" (word "x" ∷ []) ∷ []) ∷ []) ∷ []) ≡ says "clause 1: body 1: tracer of OTP 27 isn't modelled"
+unfolding is_written_bare digits
+no_tracer = refl
+
 -- a call itself comes before its arguments
 pub slip_before_argument : by_conditions (calls "&&" (word "$7" ∷ word "true" ∷ []) ∷ []) ≡ says "clause 1: condition 1: no function '&&'; 'andalso' is meant?"
 unfolding is_written_bare digits
@@ -238,10 +246,28 @@ pub flags_no_list : of_processes (pid 120) (word "true") (word "send") ≡ says 
 unfolding is_written_bare digits
 flags_no_list = refl
 
-pub no_flag_there : of_processes (pid 120) (word "true") (brackets (word "send" ∷ word "sends" ∷ word "calls" ∷ []))
-    ≡ says "no flag sends; the flags are send, 'receive', call, procs, silent, arity, set_on_spawn, set_on_first_spawn, set_on_link, set_on_first_link"
+pub no_flag_there : of_processes (pid 120) (word "true") (brackets (word "send" ∷ word "sends" ∷ word "calls" ∷ [])) ≡ says "no flag sends; is send meant?"
 unfolding is_written_bare digits
 no_flag_there = refl
+
+pub number_no_flag : of_processes (pid 120) (word "true") (brackets (number 1 ∷ []))
+    ≡ says "no flag 1; the flags are send, 'receive', call, procs, silent, arity, set_on_spawn, set_on_first_spawn, set_on_link, set_on_first_link"
+unfolding is_written_bare digits
+number_no_flag = refl
+
+pub near_receive : of_processes (pid 120) (word "true") (brackets (word "recieve" ∷ [])) ≡ says "no flag recieve; is 'receive' meant?"
+unfolding is_written_bare digits
+near_receive = refl
+
+pub flag_of_otp : of_processes (pid 120) (word "true") (brackets (word "timestamp" ∷ []))
+    ≡ says "no flag timestamp: it is a flag of OTP 27 that isn't modelled; the flags are send, 'receive', call, procs, silent, arity, set_on_spawn, set_on_first_spawn, set_on_link, set_on_first_link"
+unfolding is_written_bare digits
+flag_of_otp = refl
+
+pub flag_of_dbg : of_processes (pid 120) (word "true") (brackets (word "m" ∷ []))
+    ≡ says "no flag m: in dbg it is [send,'receive']; the flags are send, 'receive', call, procs, silent, arity, set_on_spawn, set_on_first_spawn, set_on_link, set_on_first_link"
+unfolding is_written_bare digits
+flag_of_dbg = refl
 
 pub not_alive_there : of_processes (pid 120) (word "true") (brackets (word "send" ∷ [])) ≡ says "<0.120.0> isn't alive"
 unfolding is_written_bare digits
@@ -255,6 +281,18 @@ alive_there = refl
 pub no_pattern_there : of_function (braces (word "m" ∷ word "f" ∷ [])) (word "a") (word "b") ≡ says "MFA is {M,F,A}, {M,F,'_'}, {M,'_','_'} or {'_','_','_'}, A from 0 to 255, found {m,f}"
 unfolding is_written_bare digits
 no_pattern_there = refl
+
+pub option_of_otp : of_function (in_module "f" 1) (word "true") (brackets (word "call_count" ∷ [])) ≡ says "Opts is [], [global] or [local], found [call_count]: call_count of OTP 27 isn't modelled"
+unfolding is_written_bare digits
+option_of_otp = refl
+
+pub setting_of_otp : of_function (in_module "f" 1) (word "restart") (brackets []) ≡ says "Spec is true, false or a list of clauses, found restart: restart of OTP 27 isn't modelled"
+unfolding is_written_bare digits
+setting_of_otp = refl
+
+pub setting_of_dbg : of_function (in_module "f" 1) (word "x") (brackets []) ≡ says "Spec is true, false or a list of clauses, found x: in dbg it is [{'_',[],[{exception_trace}]}]"
+unfolding is_written_bare digits
+setting_of_dbg = refl
 
 pub no_options_there : of_function (in_module "f" 1) (word "a") (word "b") ≡ says "Opts is [], [global] or [local], found b"
 unfolding is_written_bare digits

@@ -26,5 +26,6 @@ pub mod Remarks
 pub mod RemarkLaws
 pub mod CommandPlaces
 pub mod EmptyScripts
+pub mod NearNames
 pub mod NearestFunctions
 pub mod Limits

@@ -1,10 +1,11 @@
 -- The texts of why a command is refused and why a term is no match specification (own). Each is one line.
 -- Depends on these reasons, on the names of flags, functions and actions, and on the texts of terms.
 use Rattle.std.specs.Prelude.{ℕ, suc, ◌==◌, Bool, true, false, if◌then◌else◌, List, [], ◌∷◌, ◌++◌, Option, Some, None, codes, decimal}
+use Rattle.std.specs.Option.{unwrap_or}
 use Rattle.std.specs.Str.{bytes_eq}
-use Rattle.def_term.specs.Tree.{Tree, atom, tuple, Trees, none, more, count}
+use Rattle.def_term.specs.Tree.{Tree, atom, tuple, list, Trees, none, more, count}
 use Rattle.def_term.specs.Names.{Name, Mfa}
-use Rattle.def_term.specs.Text.{w, atom_text, pid_text}
+use Rattle.def_term.specs.Text.{w, atom_text, pid_text, is_among}
 use Rattle.def_script.specs.Program.{Command}
 use Rattle.def_script.specs.Exports.{Exports}
 use Rattle.def_spec.specs.Flags.{Flag, flags_by_name}
@@ -14,6 +15,7 @@ use Rattle.def_session.specs.State.{Session}
 use Rattle.def_session.specs.Commands.{command_done}
 use Rattle.def_trap.specs.Actions.{action_name}
 use Rattle.def_trap.specs.TrapTexts.{clause_trap_text}
+use Rattle.def_explain.specs.NearNames.{is_near}
 use Rattle.def_explain.specs.SpecReasons.{ExpressionReason, not_in_head, no_variable, no_call, no_function, wrong_count, wrong_place, not_supported, HeadTermReason, no_head, no_head_variable, ShapeReason, no_tuple, element_count, no_conditions, no_body, ClauseReason, of_shape, of_head, of_condition, of_body, SpecReason, no_clauses, at_clause}
 use Rattle.def_explain.specs.CommandReasons.{CommandReason, not_created, exists_already, is_destroyed, no_processes, not_alive, no_how, no_flag_list, no_flag, no_pattern, no_options, no_specification, no_match, no_exported_match, has_trap, command_reason}
 
@@ -40,7 +42,8 @@ tuple_text ts = codes "; a tuple is written " ++ w (tuple (more (tuple ts) none)
 -- names of other languages with the names that are meant
 abbrev pub common_slips : List (Name × Name)
 common_slips =
-    (codes "=>", codes ">=") ∷ (codes "<=", codes "=<") ∷ (codes "!=", codes "/=") ∷ (codes "&&", codes "andalso") ∷ (codes "||", codes "orelse") ∷ []
+    (codes "=>", codes ">=") ∷ (codes "<=", codes "=<") ∷ (codes "!=", codes "/=") ∷ (codes "&&", codes "andalso") ∷ (codes "||", codes "orelse")
+    ∷ (codes "gt", codes ">") ∷ (codes "ge", codes ">=") ∷ (codes "lt", codes "<") ∷ (codes "le", codes "=<") ∷ (codes "eq", codes "==") ∷ (codes "ne", codes "/=") ∷ []
 
 -- the name that is meant
 abbrev pub meant_in : List (Name × Name) → Name → Option Name
@@ -56,10 +59,15 @@ abbrev pub no_function_text : Name → Trees → Option Name → List ℕ
 no_function_text s ts (Some meant) = codes "no function " ++ atom_text s ++ codes "; " ++ atom_text meant ++ codes " is meant?"
 no_function_text s ts None = codes "no function " ++ with_count s ts ++ tuple_text (more (atom s) ts)
 
--- `const` is no function, and takes one term
+-- of a name of OTP 27 that this profile leaves out
+abbrev pub not_modelled_text : Name → List ℕ
+not_modelled_text s = atom_text s ++ codes " of OTP 27 isn't modelled"
+
+-- `const` is no function, and takes one term; `tracer` stands in lists of flags
 abbrev pub other_name_text : Name → Trees → List ℕ
 other_name_text s ts =
     if bytes_eq s (codes "const") then codes "const takes 1 argument, found " ++ decimal (count ts) else
+    if bytes_eq s (codes "tracer") then not_modelled_text s else
     no_function_text s ts (meant_in common_slips s)
 
 -- how many arguments there may be
@@ -128,9 +136,32 @@ abbrev pub spec_reason_text : SpecReason → List ℕ
 spec_reason_text (no_clauses t) = codes "a match specification is a list of one clause or more" ++ found_text t
 spec_reason_text (at_clause n r) = at_clause_text n r
 
+-- what trace:function/4 and trace:send/3 take in place of a specification, and isn't modelled
+abbrev pub other_settings : List Name
+other_settings = codes "restart" ∷ codes "pause" ∷ []
+
+-- the specifications that dbg:tp/2 has a name for
+abbrev pub dbg_specifications : List (Name × List ℕ)
+dbg_specifications =
+    (codes "x", codes "[{'_',[],[{exception_trace}]}]") ∷ (codes "c", codes "[{'_',[],[{message,{caller}}]}]")
+    ∷ (codes "cx", codes "[{'_',[],[{exception_trace},{message,{caller}}]}]") ∷ []
+
+-- what dbg has such a name for
+abbrev pub in_dbg_text : Option (List ℕ) → List ℕ
+in_dbg_text None = []
+in_dbg_text (Some text) = codes ": in dbg it is " ++ text
+
+-- what an atom in place of a specification is elsewhere
+abbrev pub setting_name_text : Name → List ℕ
+setting_name_text s = if is_among other_settings s then codes ": " ++ not_modelled_text s else in_dbg_text (meant_in dbg_specifications s)
+
+abbrev pub setting_hint_text : Tree → List ℕ
+setting_hint_text (atom s) = setting_name_text s
+setting_hint_text t = []
+
 -- in a command `true`, `false` and [] may stand there too
 abbrev pub setting_reason_text : SpecReason → List ℕ
-setting_reason_text (no_clauses t) = codes "Spec is true, false or a list of clauses" ++ found_text t
+setting_reason_text (no_clauses t) = codes "Spec is true, false or a list of clauses" ++ found_text t ++ setting_hint_text t
 setting_reason_text (at_clause n r) = at_clause_text n r
 
 -- ---- commands
@@ -144,6 +175,66 @@ each_flag_after_comma (e ∷ es) = codes ", " ++ atom_text e.0 ++ each_flag_afte
 abbrev pub flag_names : List (Name × Flag) → List ℕ
 flag_names [] = []
 flag_names (e ∷ es) = atom_text e.0 ++ each_flag_after_comma es
+
+-- the names of the flags after a name that is none
+abbrev pub flags_text : List ℕ
+flags_text = codes "; the flags are " ++ flag_names flags_by_name
+
+-- the flags of OTP 27 that aren't modelled (trace:process/4)
+abbrev pub other_flags : List Name
+other_flags =
+    codes "all" ∷ codes "running" ∷ codes "running_procs" ∷ codes "exiting" ∷ codes "garbage_collection" ∷ codes "return_to" ∷ codes "timestamp" ∷ codes "cpu_timestamp"
+    ∷ codes "monotonic_timestamp" ∷ codes "strict_monotonic_timestamp" ∷ codes "ports" ∷ codes "running_ports" ∷ []
+
+-- the flags that dbg:p/2 has a name for
+abbrev pub dbg_flags : List (Name × List ℕ)
+dbg_flags =
+    (codes "m", codes "[send,'receive']") ∷ (codes "s", codes "send") ∷ (codes "r", codes "'receive'") ∷ (codes "c", codes "call") ∷ (codes "p", codes "procs")
+    ∷ (codes "sos", codes "set_on_spawn") ∷ (codes "sofs", codes "set_on_first_spawn") ∷ (codes "sol", codes "set_on_link") ∷ (codes "sofl", codes "set_on_first_link") ∷ []
+
+-- the written name of the first of these flags whose name is near
+abbrev pub near_flag : List (Name × Flag) → Name → Option (List ℕ)
+near_flag [] s = None
+near_flag (e ∷ es) s = if is_near s e.0 then Some (atom_text e.0) else near_flag es s
+
+-- the flag that is meant, or all
+abbrev pub near_flag_text : Option (List ℕ) → List ℕ
+near_flag_text None = flags_text
+near_flag_text (Some written) = codes "; is " ++ written ++ codes " meant?"
+
+-- what dbg has such a name for
+abbrev pub dbg_flag_text : Name → Option (List ℕ) → List ℕ
+dbg_flag_text s None = near_flag_text (near_flag flags_by_name s)
+dbg_flag_text s (Some text) = in_dbg_text (Some text) ++ flags_text
+
+-- what a name that is no flag is elsewhere
+abbrev pub flag_name_text : Name → List ℕ
+flag_name_text s = if is_among other_flags s then codes ": it is a flag of OTP 27 that isn't modelled" ++ flags_text else dbg_flag_text s (meant_in dbg_flags s)
+
+abbrev pub flag_hint_text : Tree → List ℕ
+flag_hint_text (atom s) = flag_name_text s
+flag_hint_text t = flags_text
+
+-- the options of OTP 27 that aren't modelled (trace:function/4)
+abbrev pub other_options : List Name
+other_options = codes "meta" ∷ codes "call_count" ∷ codes "call_time" ∷ codes "call_memory" ∷ []
+
+-- that of one of them
+abbrev pub other_option_text : Name → Option (List ℕ)
+other_option_text s = if is_among other_options s then Some (codes ": " ++ not_modelled_text s) else None
+
+abbrev pub other_option_term_text : Tree → Option (List ℕ)
+other_option_term_text (atom s) = other_option_text s
+other_option_term_text t = None
+
+-- that of the first of several terms of which it can be said
+abbrev pub options_hint_text : Trees → List ℕ
+options_hint_text none = []
+options_hint_text (more t ts) = unwrap_or (other_option_term_text t) (options_hint_text ts)
+
+abbrev pub option_hint_text : Tree → List ℕ
+option_hint_text (list ts) = options_hint_text ts
+option_hint_text t = []
 
 -- M:F/A
 abbrev pub mfa_text : Mfa → List ℕ
@@ -163,9 +254,9 @@ command_reason_text (no_processes t) = codes "Procs is a pid, all, existing or n
 command_reason_text (not_alive n) = pid_text n ++ codes " isn't alive"
 command_reason_text (no_how t) = codes "How is true or false" ++ found_text t
 command_reason_text (no_flag_list t) = codes "Flags is a list of flags" ++ found_text t
-command_reason_text (no_flag t) = codes "no flag " ++ w t ++ codes "; the flags are " ++ flag_names flags_by_name
+command_reason_text (no_flag t) = codes "no flag " ++ w t ++ flag_hint_text t
 command_reason_text (no_pattern t) = codes "MFA is {M,F,A}, {M,F,'_'}, {M,'_','_'} or {'_','_','_'}, A from 0 to 255" ++ found_text t
-command_reason_text (no_options t) = codes "Opts is [], [global] or [local]" ++ found_text t
+command_reason_text (no_options t) = codes "Opts is [], [global] or [local]" ++ found_text t ++ option_hint_text t
 command_reason_text (no_specification r) = setting_reason_text r
 command_reason_text (no_match near) = codes "no function matches" ++ meant_text near
 command_reason_text no_exported_match = codes "no exported function matches; [local] is for the others too"

@@ -31,6 +31,7 @@ ghost use Rattle.def_explain.specs.RemarkLaws.{NothingAfterCommands, NoReasonLin
 ghost use Rattle.def_explain.specs.ReasonLaws.{SpecFaultHasReason, SpecReasonIsComputed, CommandReasonIsComputed};
 ghost use Rattle.def_explain.specs.ReasonLaws.{ReplyIsOfReason, FaultHasReason, ZeroHasReason, RefusalChangesNothing};
 ghost use Rattle.def_explain.specs.ReasonLaws.{NearestIsThere, SomeNearestWhereAlike};
+ghost use Rattle.def_explain.specs.NearNames.{NearNamesAreNear};
 
 /// A clause has a reason exactly where it doesn't fire, and one at most, which is what is computed.
 pub fn a_clause_has_a_reason_or_fires()
@@ -152,6 +153,11 @@ pub fn a_limit_is_said_where_it_is_passed()
 pub fn a_nearest_function_is_there()
     ensures there { NearestIsThere }
     ensures some { SomeNearestWhereAlike }
+{}
+
+/// Names that are found to be near are alike but for one letter, or for two that have changed places.
+pub fn near_names_are_near()
+    ensures { NearNamesAreNear }
 {}
 
 /// A command of a run is remarked of exactly where it has a reason, and has the reply of that; the same is remarked by

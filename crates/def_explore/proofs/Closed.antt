@@ -56,14 +56,14 @@ module _ (admits : KeptMessages → Bool) (q : RunQuestion) (ss : List Name) (p 
   abbrev EndIsNoShorter : List RestEntry → List ℕ → Type 0
   EndIsNoShorter es j = IsEndAfter admits q ss p j → EachOf (IsNoLonger q ss p j) es
 
-  end_has_entry : (js : List (List ℕ)) (picks : List ℕ) (es : List RestEntry) → HasStateOf q ss p js picks → IsEndAfter admits q ss p picks → EachOf (EndHasEntry es) js → OneOf (IsEntryFor q ss p picks) es
+  pub end_has_entry : (js : List (List ℕ)) (picks : List ℕ) (es : List RestEntry) → HasStateOf q ss p js picks → IsEndAfter admits q ss p picks → EachOf (EndHasEntry es) js → OneOf (IsEntryFor q ss p picks) es
   end_has_entry js picks es state ends entries =
       let there : (j : List ℕ) × EndHasEntry es j × IsStateAlike q ss p picks j = one_both (EndHasEntry es) (IsStateAlike q ss p picks) js entries state in
       let j : List ℕ = there.0 in
       let back : IsStateAlike q ss p j picks = alike_back q ss p picks j there.2 in
       one_also (IsEntryFor q ss p j) (IsEntryFor q ss p picks) es (λ e h. h ∙ back.kept) (there.1 (end_alike admits q ss p j picks back ends))
 
-  end_is_no_shorter : (js : List (List ℕ)) (picks : List ℕ) (es : List RestEntry) → HasStateOf q ss p js picks → IsEndAfter admits q ss p picks → EachOf (EndIsNoShorter es) js → EachOf (IsNoLonger q ss p picks) es
+  pub end_is_no_shorter : (js : List (List ℕ)) (picks : List ℕ) (es : List RestEntry) → HasStateOf q ss p js picks → IsEndAfter admits q ss p picks → EachOf (EndIsNoShorter es) js → EachOf (IsNoLonger q ss p picks) es
   end_is_no_shorter js picks es state ends shortest =
       let there : (j : List ℕ) × EndIsNoShorter es j × IsStateAlike q ss p picks j = one_both (EndIsNoShorter es) (IsStateAlike q ss p picks) js shortest state in
       let j : List ℕ = there.0 in

@@ -16,15 +16,15 @@ use Rattle.def_explore.proofs.Closed.{state_by, state_idle, rest_has_entry}
 -- ---- the first of some picks among others
 
 -- none of the picks is among these, or there is a first one that is
-record Split (ts more : List ℕ) : Type 0 where
-  others : List ℕ
-  first : ℕ
-  tail : List ℕ
-  whole : more ≡ others ++ first ∷ tail
-  apart : All (λ other. is_pick_among other ts ≡ false) others
-  there : is_pick_among first ts ≡ true
+pub record Split (ts more : List ℕ) : Type 0 where
+  pub others : List ℕ
+  pub first : ℕ
+  pub tail : List ℕ
+  pub whole : more ≡ others ++ first ∷ tail
+  pub apart : All (λ other. is_pick_among other ts ≡ false) others
+  pub there : is_pick_among first ts ≡ true
 
-split : (ts more : List ℕ) → All (λ other. is_pick_among other ts ≡ false) more ⊎ Split ts more
+pub split : (ts more : List ℕ) → All (λ other. is_pick_among other ts ≡ false) more ⊎ Split ts more
 split ts [] = inl (All-nil (λ other. is_pick_among other ts ≡ false))
 split ts (x ∷ more) = go (is_pick_among x ts) refl (split ts more)
   where
@@ -37,7 +37,7 @@ both_ways : (b : Bool) → b ≡ true → b ≡ false → ⊥
 both_ways b h k = cc
 
 module _ (q : RunQuestion) (ss : List Name) (p : Program) (j : List ℕ) (ts : List ℕ) where
-  abbrev GoesFirst : List ℕ → Type 0
+  abbrev pub GoesFirst : List ℕ → Type 0
   GoesFirst more = (t : ℕ) × (rest : List ℕ) × (is_pick_among t ts ≡ true) × (length rest + 1 ≡ length more) × IsStateAlike q ss p (j ++ more) (j ++ t ∷ rest)
 
   -- what was before has no more moves
@@ -48,9 +48,9 @@ module _ (q : RunQuestion) (ss : List Name) (p : Program) (j : List ℕ) (ts : L
       let counted : length (moves p (j ++ more)) ≡ length (moves p (j ++ others)) + length grows.0 = ap (λ xs. length (moves p xs)) apart ∙ ap length grows.1 ∙ length-append (moves p (j ++ others)) grows.0 in
       omega arith
 
-  by_split : (more : List ℕ) → AreIndependent q ss p j ts → length (moves p (j ++ more)) < 65536 → (s : Split ts more) → GoesFirst more
-  by_split more h room s =
-      let moved : IsStateAlike q ss p (j ++ s.others ++ s.first ∷ []) (j ++ s.first ∷ s.others) = (h s.others s.apart (fewer more s.others (s.first ∷ s.tail) s.whole room) s.first s.there).1 in
+  pub by_split : (more : List ℕ) → AreIndependent q ss p j ts → (s : Split ts more) → length (moves p (j ++ s.others)) < 65536 → GoesFirst more
+  by_split more h s room =
+      let moved : IsStateAlike q ss p (j ++ s.others ++ s.first ∷ []) (j ++ s.first ∷ s.others) = (h s.others s.apart room s.first s.there).1 in
       let on : IsStateAlike q ss p ((j ++ s.others ++ s.first ∷ []) ++ s.tail) ((j ++ s.first ∷ s.others) ++ s.tail) = goes_on q ss p (j ++ s.others ++ s.first ∷ []) (j ++ s.first ∷ s.others) s.tail moved in
       let from : j ++ more ≡ ((j ++ s.others) ++ s.first ∷ []) ++ s.tail =
       ap (λ xs. j ++ xs) s.whole ∙ sym (append_assoc j s.others (s.first ∷ s.tail)) ∙ sym (append_assoc (j ++ s.others) (s.first ∷ []) s.tail) in
@@ -70,7 +70,7 @@ module _ (q : RunQuestion) (ss : List Name) (p : Program) (j : List ℕ) (ts : L
     where
       go : All (λ other. is_pick_among other ts ≡ false) more ⊎ Split ts more → GoesFirst more
       go (inl apart) = absurd (both_ways (pick_step_after p (j ++ more) one).moved (h more apart room one there).0 (rests one))
-      go (inr s) = by_split more h room s
+      go (inr s) = by_split more h s (fewer more s.others (s.first ∷ s.tail) s.whole room)
 
 pub independent_go_first : IndependentPicksGoFirst
 independent_go_first q ss p j more ts one there h rests room = goes_first q ss p j ts more one there h rests room

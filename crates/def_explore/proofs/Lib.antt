@@ -7,5 +7,6 @@ pub mod AllRuns
 pub mod SameEntries
 mod Words
 mod Independent
+pub mod ReducedJournals
 pub mod Settings
 mod Rows

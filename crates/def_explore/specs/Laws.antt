@@ -11,7 +11,7 @@ use Rattle.def_run.specs.Round.{pass}
 use Rattle.def_run.specs.Laws.{IsIdleAfter}
 use Rattle.def_explore.specs.Rests.{IsMovingAfter, IsRestAfter, RunQuestion, KeptMessages}
 use Rattle.def_explore.specs.Alike.{IsStateAlike, HasStateOf, is_pick_among, AreIndependent, IsReduced}
-use Rattle.def_explore.specs.RunsToEnd.{IsEndAfter, AreSoundWithin, AreCompleteWithin, AreShortestWithin, IsClosed, HaveAllStates, all_runs}
+use Rattle.def_explore.specs.RunsToEnd.{IsEndAfter, IsFollowed, IsRunToEnd, AreSoundWithin, AreCompleteWithin, AreShortestWithin, IsClosed, HaveAllStates, IsReducedWithin, AreBelowLimit, all_runs}
 use Rattle.def_explore.specs.Lists.{OneOf, EachOf}
 use Rattle.def_explore.specs.Answers.{RestEntry, IsEntryFor, IsNoLonger, AreSound, AreComplete, AreCompleteBelow, AreShortest}
 use Rattle.def_explore.specs.Words.{Word, always, never, sometimes, shows, IsTrueWord, AllShow, word_of, any_word, meets, PatternQuestion, refutes}
@@ -159,3 +159,27 @@ abbrev pub ReducedJournalsAreComplete : Type 0
 ReducedJournalsAreComplete =
     (q : RunQuestion) (ss : List Name) (p : Program) (js : List (List ℕ)) (before : List ℕ) (es : List RestEntry) →
     HasStateOf q ss p js before → IsReduced q ss p js → RestsHaveEntries q ss p js es → AreCompleteBelow q ss p before es
+
+-- where none of them is full, no run that is followed fills the journal
+abbrev pub ReducedJournalsBoundRuns : Type 0
+ReducedJournalsBoundRuns =
+    (admits : KeptMessages → Bool) (q : RunQuestion) (ss : List Name) (p : Program) (js : List (List ℕ)) (before more : List ℕ) →
+    HasStateOf q ss p js before → IsReducedWithin admits q ss p js → AreBelowLimit p js → IsFollowed admits q ss p before more → length (moves p (before ++ more)) < JOURNAL
+
+-- so that they have each run that is followed to its end
+abbrev pub ReducedJournalsHaveEnds : Type 0
+ReducedJournalsHaveEnds =
+    (admits : KeptMessages → Bool) (q : RunQuestion) (ss : List Name) (p : Program) (js : List (List ℕ)) (before more : List ℕ) →
+    HasStateOf q ss p js before → IsReducedWithin admits q ss p js → AreBelowLimit p js → IsRunToEnd admits q ss p before more → HasStateOf q ss p js (before ++ more)
+
+-- their entries are complete
+abbrev pub ReducedEndsAreComplete : Type 0
+ReducedEndsAreComplete =
+    (admits : KeptMessages → Bool) (q : RunQuestion) (ss : List Name) (p : Program) (js : List (List ℕ)) (before : List ℕ) (es : List RestEntry) →
+    HasStateOf q ss p js before → IsReducedWithin admits q ss p js → AreBelowLimit p js → EndsHaveEntries admits q ss p js es → AreCompleteWithin admits q ss p before es
+
+-- and shortest
+abbrev pub ReducedEndsAreShortest : Type 0
+ReducedEndsAreShortest =
+    (admits : KeptMessages → Bool) (q : RunQuestion) (ss : List Name) (p : Program) (js : List (List ℕ)) (before : List ℕ) (es : List RestEntry) →
+    HasStateOf q ss p js before → IsReducedWithin admits q ss p js → AreBelowLimit p js → EndsAreNoShorter admits q ss p js es → AreShortestWithin admits q ss p before es

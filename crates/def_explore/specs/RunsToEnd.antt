@@ -1,12 +1,12 @@
 -- Runs that are followed as long as what is kept of them is admitted (own).
 -- Depends on what an exploration answers, and on picks that lead to the same state.
-use Rattle.std.specs.Prelude.{◌≡◌, ◌⊎◌, ℕ, Bool, true, false, List, [], ◌∷◌, ◌++◌}
+use Rattle.std.specs.Prelude.{◌≡◌, ◌<◌, ◌⊎◌, ℕ, Bool, true, false, List, [], ◌∷◌, ◌++◌, length}
 use Rattle.def_term.specs.Names.{Name}
 use Rattle.def_script.specs.Program.{Program}
-use Rattle.def_run.specs.Run.{moves}
+use Rattle.def_run.specs.Run.{JOURNAL, moves}
 use Rattle.def_explore.specs.Lists.{OneOf, EachOf}
 use Rattle.def_explore.specs.Rests.{IsRestAfter, RunQuestion, KeptMessages, kept_in}
-use Rattle.def_explore.specs.Alike.{HasStateOf, HasNext}
+use Rattle.def_explore.specs.Alike.{HasStateOf, HasNext, HasFirstPicks}
 use Rattle.def_explore.specs.Answers.{RestEntry, IsJournalFrom, IsEntryFor, IsNoLonger}
 
 -- what is kept is admitted before each of the second picks, which come after the first
@@ -56,6 +56,25 @@ IsClosed admits q ss p js = EachOf (HasNextWithin admits q ss p js) js
 -- whatever picks come after the first ones, as long as the run is followed, one of these journals leads to the state that they lead to
 abbrev pub HaveAllStates : (KeptMessages → Bool) → RunQuestion → List Name → Program → List ℕ → List (List ℕ) → Type 0
 HaveAllStates admits q ss p before js = (more : List ℕ) → IsFollowed admits q ss p before more → HasStateOf q ss p js (before ++ more)
+
+-- ---- states after which some picks alone are tried
+
+-- each run is followed, and picks are tried that are independent of all others
+pub record HasFirstPicksWithin (admits : KeptMessages → Bool) (q : RunQuestion) (ss : List Name) (p : Program) (js : List (List ℕ)) (j : List ℕ) : Type 0 where
+  pub all : (kept : KeptMessages) → admits kept ≡ true
+  pub first : HasFirstPicks q ss p js j
+
+-- after the journal all picks are tried, or such picks alone
+abbrev pub IsTriedWithin : (KeptMessages → Bool) → RunQuestion → List Name → Program → List (List ℕ) → List ℕ → Type 0
+IsTriedWithin admits q ss p js j = HasNextWithin admits q ss p js j ⊎ HasFirstPicksWithin admits q ss p js j
+
+-- that is so after each of them
+abbrev pub IsReducedWithin : (KeptMessages → Bool) → RunQuestion → List Name → Program → List (List ℕ) → Type 0
+IsReducedWithin admits q ss p js = EachOf (IsTriedWithin admits q ss p js) js
+
+-- none of these journals is full
+abbrev pub AreBelowLimit : Program → List (List ℕ) → Type 0
+AreBelowLimit p js = EachOf (λ j. length (moves p j) < JOURNAL) js
 
 -- ---- all runs
 

@@ -13,6 +13,8 @@ ghost use Rattle.def_explore.specs.Laws.{EntriesAreDetermined};
 ghost use Rattle.def_explore.specs.Laws.{WordIsOne, EntriesShowAll, WordOfEntriesIsTrue};
 ghost use Rattle.def_explore.specs.Laws.{NoTrueWordMeetsWhatIsRefuted, WordMeetsWhatIsNotRefuted};
 ghost use Rattle.def_explore.specs.Laws.{IndependentPicksGoFirst, ReducedJournalsHaveRests, ReducedJournalsAreComplete};
+ghost use Rattle.def_explore.specs.Laws.{ReducedJournalsBoundRuns, ReducedJournalsHaveEnds, ReducedEndsAreComplete};
+ghost use Rattle.def_explore.specs.Laws.{ReducedEndsAreShortest};
 ghost use Rattle.def_explore.specs.Settings.{CommandsDetermineSettings};
 
 /// Picks that lead to the same state do so with whatever comes after them, after both the same picks are idle, and as
@@ -71,6 +73,15 @@ pub fn independent_picks_go_first()
     ensures first { IndependentPicksGoFirst }
     ensures rests { ReducedJournalsHaveRests }
     ensures complete { ReducedJournalsAreComplete }
+{}
+
+/// Where after each journal all picks are tried, or such picks alone, and none of the journals is full, no run fills
+/// the journal. So they have each run to its end, and their entries are complete and shortest.
+pub fn reduced_journals_are_complete()
+    ensures bound { ReducedJournalsBoundRuns }
+    ensures ends { ReducedJournalsHaveEnds }
+    ensures complete { ReducedEndsAreComplete }
+    ensures shortest { ReducedEndsAreShortest }
 {}
 
 /// The commands that are left determine what the commands of a session set, but for flags of processes. So states with

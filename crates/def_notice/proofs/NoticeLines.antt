@@ -4,7 +4,7 @@ use Rattle.def_text.specs.Places.{line_feeds}
 use Rattle.def_text.proofs.Columns.{line_feeds-append}
 use Rattle.def_notice.specs.FaultTexts.{FaultSaid, of_reading, of_writing, of_memory, of_workers, of_bytes, of_listings, of_expectation, output_text, fault_text}
 use Rattle.def_notice.specs.DifferenceTexts.{Side, expected_output, found_output, OutputDifference, one_line, two_lines, lines_without_text, last_line_feed, no_line, end_of_output, more_lines, more_differences, AlignedSide, of_both, of_expected, of_found, LineRange, range_text, aligned_sign, aligned_output, aligned_ranges, aligned_line, side_text, numbered_line, output_difference_text}
-use Rattle.def_notice.specs.NoticeTexts.{NodeCommand, by_same_picks, by_journal, node_command_text, TestText, the_list, the_caller, the_specification, test_text_name, TestTextFault, is_no_list, is_no_function, is_too_long, goes_on_otherwise, is_too_deep, is_too_large, has_no_memory, fault_in_words, test_fault_text, InputText, the_script, the_picks, the_moves, the_output, the_listing, input_text_name, Notice, given_line, of_fault, of_fault_because, no_file, both_from_input, no_value, of_test_text, no_session, no_move, no_node_move, no_forms, pick_of_nobody, node_moves, of_difference, lacks_a_line, has_a_line, lacks_a_listing, notice_text}
+use Rattle.def_notice.specs.NoticeTexts.{NodeCommand, by_same_picks, by_journal, node_command_text, TestText, the_list, the_caller, the_specification, test_text_name, TestTextFault, is_no_list, is_no_function, is_too_long, goes_on_otherwise, is_too_deep, is_too_large, has_no_memory, fault_in_words, test_fault_text, InputText, the_script, the_picks, the_moves, the_output, the_listing, input_text_name, Notice, given_line, of_fault, of_fault_because, no_file, both_from_input, no_value, of_test_text, no_session, no_move, no_node_move, no_chosen_move, no_forms, pick_of_nobody, node_moves, of_difference, lacks_a_line, has_a_line, lacks_a_listing, notice_text}
 use Rattle.def_notice.specs.NoticeLaws.{words_of_test_fault, words_of_notice, line_feeds_of_notice}
 use Rattle.def_notice.proofs.LineFeeds.{decimal_has_none}
 
@@ -184,6 +184,7 @@ notice_is_a_line (of_test_text t f) = test_is_a_line t f
 notice_is_a_line (no_session name) = omega arith
 notice_is_a_line (no_move n) = decimal_has_none n
 notice_is_a_line no_node_move = refl
+notice_is_a_line no_chosen_move = refl
 notice_is_a_line no_forms = refl
 notice_is_a_line (pick_of_nobody n pick) = pick_is_a_line n pick
 notice_is_a_line (node_moves n m c) = moves_are_a_line n m c

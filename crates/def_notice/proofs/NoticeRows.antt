@@ -7,7 +7,7 @@ use Rattle.def_text.specs.Places.{place_at}
 use Rattle.def_notice.specs.FaultTexts.{of_reading, of_writing, of_memory, of_workers, of_bytes, of_listings, of_expectation, broken_pipe, refused_memory}
 use Rattle.def_notice.specs.MovesTexts.{MovesReason, no_mover, no_number, no_count, no_start, many_starts, too_many_bytes, no_directive_at, bad_moves_text}
 use Rattle.def_notice.specs.DifferenceTexts.{expected_output, found_output, one_line, two_lines, lines_without_text, last_line_feed, no_line, end_of_output, more_lines, more_differences, of_both, of_expected, of_found, aligned_output, aligned_ranges, aligned_line}
-use Rattle.def_notice.specs.NoticeTexts.{by_same_picks, by_journal, the_list, the_caller, the_specification, is_no_list, is_no_function, is_too_long, is_too_deep, fault_in_words, the_script, the_picks, the_moves, the_output, the_listing, Notice, of_fault, of_fault_because, no_file, both_from_input, no_value, of_test_text, no_session, no_move, no_node_move, no_forms, pick_of_nobody, node_moves, of_difference, lacks_a_line, has_a_line, lacks_a_listing, notice_text, notice_of_fault}
+use Rattle.def_notice.specs.NoticeTexts.{by_same_picks, by_journal, the_list, the_caller, the_specification, is_no_list, is_no_function, is_too_long, is_too_deep, fault_in_words, the_script, the_picks, the_moves, the_output, the_listing, Notice, of_fault, of_fault_because, no_file, both_from_input, no_value, of_test_text, no_session, no_move, no_node_move, no_chosen_move, no_forms, pick_of_nobody, node_moves, of_difference, lacks_a_line, has_a_line, lacks_a_listing, notice_text, notice_of_fault}
 
 -- this is the line
 abbrev Says : Notice → String → Type 0
@@ -95,6 +95,9 @@ move_too_far = refl
 
 nothing_otherwise : Says no_node_move "note: a running node is known to do nothing otherwise there"
 nothing_otherwise = refl
+
+nothing_chosen : Says no_chosen_move "error: the pattern selects no move of the run"
+nothing_chosen = refl
 
 empty_script : Says no_forms "note: the script has no forms"
 empty_script = refl

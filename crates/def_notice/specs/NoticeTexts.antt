@@ -86,6 +86,7 @@ pub data Notice : Type 0 where
   no_session : (name : List ℕ) → Notice
   no_move : (number : ℕ) → Notice
   no_node_move : Notice
+  no_chosen_move : Notice
   -- of a run
   no_forms : Notice
   pick_of_nobody : (number pick : ℕ) → Notice
@@ -110,6 +111,7 @@ notice_text (of_test_text text f) = test_text_name text ++ codes ": " ++ test_fa
 notice_text (no_session name) = codes "error: the script creates no session " ++ name
 notice_text (no_move n) = codes "error: the run has no move " ++ decimal n
 notice_text no_node_move = codes "note: a running node is known to do nothing otherwise there"
+notice_text no_chosen_move = codes "error: the pattern selects no move of the run"
 notice_text no_forms = codes "note: the script has no forms"
 notice_text (pick_of_nobody n pick) =
     codes "note: pick " ++ decimal n ++ codes " is " ++ decimal pick ++ codes ", and no process has that pid: pids are 100 to 163, and 0 takes the next command"

@@ -82,6 +82,10 @@ no_steps : Says (tagged "function" (word "m" ∷ word "f" ∷ word "exported" �
 unfolding is_written_bare digits
 no_steps = refl
 
+long_process : Says (tagged "process" (word "s" ∷ word "all" ∷ word "true" ∷ list none ∷ [])) ": {process,M,F,Args} has 4 elements, and the command {process,S,Procs,How,Flags} stands in {control,[Command,..]}, found 5"
+unfolding is_written_bare digits
+long_process = refl
+
 short_process : Says (tagged "process" (word "m" ∷ word "f" ∷ [])) ": {process,M,F,Args} has 4 elements, found 3"
 unfolding is_written_bare digits
 short_process = refl
@@ -327,11 +331,11 @@ tracer_of_another : Breaks (controls (create (codes "a") (codes "t") ∷ create 
 unfolding is_written_bare digits
 tracer_of_another = refl
 
-two_arities : Breaks (function_of "f" [] ∷ with_parameter ∷ process_of (number 1 ∷ number 2 ∷ []) ∷ []) 3 wrong_arity ": function m:f/2 is declared with 0 or 1 arguments"
+two_arities : Breaks (function_of "f" [] ∷ with_parameter ∷ process_of (number 1 ∷ number 2 ∷ []) ∷ []) 3 wrong_arity ": function m:f/2 is declared with the arity 0 or 1 alone"
 unfolding is_written_bare digits
 two_arities = refl
 
-another_arity : Breaks (with_parameter ∷ function_of "g" (call_local None (codes "f") [] ∷ []) ∷ []) 2 wrong_arity ": function m:f/0 is declared with 1 arguments, in step 1"
+another_arity : Breaks (with_parameter ∷ function_of "g" (call_local None (codes "f") [] ∷ []) ∷ []) 2 wrong_arity ": function m:f/0 is declared with the arity 1 alone, in step 1"
 unfolding is_written_bare digits
 another_arity = refl
 

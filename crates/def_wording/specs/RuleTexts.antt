@@ -56,9 +56,9 @@ abbrev pub numbers_after : List ℕ → List ℕ → List ℕ
 numbers_after between [] = []
 numbers_after between (n ∷ ns) = between ++ decimal n ++ numbers_after (codes " or ") ns
 
--- the numbers of parameters
+-- the arities with which it is declared
 abbrev pub arities_text : List ℕ → List ℕ
-arities_text ns = numbers_after (codes " is declared with ") ns ++ codes " arguments"
+arities_text ns = numbers_after (codes " is declared with the arity ") ns ++ codes " alone"
 
 -- so many of one kind up to the form
 abbrev pub total_text : ℕ → List ℕ → List ℕ

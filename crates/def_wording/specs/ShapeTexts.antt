@@ -273,8 +273,13 @@ function_shape_reason (tag ∷ m ∷ f ∷ vis ∷ params ∷ steps ∷ []) =
     option_or (option_map of_part (function_parts_reason m f vis params)) (steps_reason steps)
 function_shape_reason ts = Some (of_part (count_reason (codes "{function,M,F,Vis,Params,Steps}") 6 ts))
 
+-- {process,S,Procs,How,Flags} is a command
+abbrev pub command_as_form : PartReason
+command_as_form = too_many (codes "{process,M,F,Args} has 4 elements, and the command {process,S,Procs,How,Flags} stands in {control,[Command,..]}, found ") 5
+
 -- {process,M,F,Args}
 abbrev pub process_shape_reason : List Tree → Option PartReason
+process_shape_reason (tag ∷ s ∷ procs ∷ how ∷ flags ∷ []) = Some command_as_form
 process_shape_reason (tag ∷ m ∷ f ∷ args ∷ []) = option_or (names_reason m f) (arguments_reason args)
 process_shape_reason ts = Some (count_reason (codes "{process,M,F,Args}") 4 ts)
 

@@ -12,6 +12,7 @@ use Rattle.tn_answers.specs.declared.form.AnswerForm.{AnswerForm}
 use Rattle.tn_answers.specs.declared.form.AnswerForm.TheVariants as forms
 use Rattle.clap.specs.Words.{found_of, first_value, matched_of, raw_values, rows_of, subcommand_name_of, subcommand_rows_of}
 use Rattle.tn_explain.specs.declared.filter.Filter.{Filter}
+use Rattle.tn_state.specs.declared.request.StateQuestion.{StateQuestion}
 use Rattle.tn_exploration.specs.declared.request.RandomRuns.{RandomRuns}
 use Rattle.tn_command.specs.declared.source.Source.{Source}
 use Rattle.tn_command.specs.declared.source.Source.TheVariants.{Input, File}
@@ -26,6 +27,7 @@ use Rattle.tn_request.specs.declared.request.PicksSource.TheVariants.{Text, In, 
 use Rattle.tn_request.specs.declared.request.RunSource.{RunSource}
 use Rattle.tn_request.specs.declared.request.RunSource.TheVariants.{ByPicks, ByRound}
 use Rattle.tn_request.specs.declared.request.ExpectationArgs.{ExpectationArgs}
+use Rattle.tn_request.specs.declared.request.MessageArgs.{MessageArgs}
 use Rattle.tn_request.specs.declared.request.SessionArgs.{SessionArgs}
 use Rattle.tn_request.specs.declared.request.SpecTestArgs.{SpecTestArgs}
 use Rattle.tn_request.specs.declared.request.FunArgs.{FunArgs}
@@ -33,9 +35,9 @@ use Rattle.tn_request.specs.declared.request.ExploreArgs.{ExploreArgs}
 use Rattle.tn_search.specs.declared.exploration.ListingOrder.{ListingOrder}
 use Rattle.tn_search.specs.declared.exploration.ListingOrder.TheVariants.{Total, ByProcess}
 use Rattle.tn_request.specs.declared.request.RunRequest.{RunRequest}
-use Rattle.tn_request.specs.declared.request.RunRequest.TheVariants.{Replay, Explain, Draw, Round}
+use Rattle.tn_request.specs.declared.request.RunRequest.TheVariants.{Replay, Explain, State, Draw, Round}
 use Rattle.tn_request.specs.declared.request.Request.{Request}
-use Rattle.tn_request.specs.declared.request.Request.TheVariants.{Run, Workers, Spec, Fun, Explore}
+use Rattle.tn_request.specs.declared.request.Request.TheVariants.{Run, Message, Workers, Spec, Fun, Explore}
 
 -- the text that the command line gives for this name
 abbrev pub argument : ArgMatches → List ℕ → Option (List ℕ)
@@ -154,6 +156,27 @@ IsAskedOf m a =
     IsTextOf (option_map session_named (argument m (codes "session"))) a.session
     × IsNumberOrNone {E = Unit {0}} (argument m (codes "move")) (Ok a.move_number)
     × (a.node ≡ is_given m (codes "node"))
+
+-- the pattern that `--message` gives, or else the one of `--why-not`, whose message isn't sent
+abbrev pub IsMessageGiven : ArgMatches → MessageArgs → Type 0
+IsMessageGiven m a =
+    ((a.is_missing ≡ false) × (argument m (codes "message") ≡ Some a.pattern.now))
+    ⊎ ((a.is_missing ≡ true) × (argument m (codes "message") ≡ None) × (argument m (codes "why-not") ≡ Some a.pattern.now))
+
+-- neither is given
+abbrev pub LacksMessage : ArgMatches → Type 0
+LacksMessage m = (argument m (codes "message") ≡ None) × (argument m (codes "why-not") ≡ None)
+
+-- the message by which moves are chosen, where one is asked for
+abbrev pub IsMessageAsked : ArgMatches → Option MessageArgs → Type 0
+IsMessageAsked m None = LacksMessage m
+IsMessageAsked m (Some a) = IsMessageGiven m a
+
+-- the state after so many moves, and the session that `--session` names
+abbrev pub IsStateOf : ArgMatches → StateQuestion → Type 0
+IsStateOf m q =
+    IsTextOf (option_map session_named (argument m (codes "session"))) q.session
+    × IsGiven 0 4294967295 (argument m (codes "at")) q.move_number
 
 -- what `--for`, `--list`, `--me` and `--caller` give, and the specification or its file
 abbrev pub IsTrialOf : ArgMatches → SpecTestArgs → Type 0
@@ -277,8 +300,11 @@ abbrev pub AsksRun : List ℕ → ArgMatches → RunRequest → Type 0
 AsksRun name m (Replay script picks quiet expectation) =
     (name ≡ codes "replay") × IsSourceNamed (argument m (codes "script")) script × ArePicksOf m picks
     × (quiet ≡ is_given m (codes "quiet")) × IsExpectationOf m expectation
-AsksRun name m (Explain script run filter expectation) =
+AsksRun name m (Explain script run filter message expectation) =
     (name ≡ codes "explain") × IsSourceNamed (argument m (codes "script")) script × IsRunOf m run × IsAskedOf m filter
+    × (message ≡ None) × LacksMessage m × IsExpectationOf m expectation
+AsksRun name m (State script run question expectation) =
+    (name ≡ codes "state") × IsSourceNamed (argument m (codes "script")) script × IsRunOf m run × IsStateOf m question
     × IsExpectationOf m expectation
 AsksRun name m (Draw script run format expectation) =
     (name ≡ codes "draw") × IsSourceNamed (argument m (codes "script")) script × IsRunOf m run
@@ -290,6 +316,9 @@ AsksRun name m (Round script limit control_first quiet expectation) =
 -- what the subcommand of this name asks for
 abbrev pub Asks : List ℕ → ArgMatches → Request → Type 0
 Asks name m (Run run) = AsksRun name m run
+Asks name m (Message r) =
+    (name ≡ codes "explain") × IsSourceNamed (argument m (codes "script")) r.script × IsRunOf m r.run × IsAskedOf m r.filter
+    × IsMessageGiven m r.message × IsExpectationOf m r.expectation
 Asks name m (Workers w) =
     (name ≡ codes "workers") × IsSourceNamed (argument m (codes "script")) w.script
     × IsGiven 1 16 (argument m (codes "n")) w.count × IsGiven 1 65536 (argument m (codes "turns")) w.turns
@@ -303,11 +332,17 @@ Asks name m (Explore exploration) = ((name ≡ codes "explore") × IsExploration
 abbrev pub LacksLimit : ArgMatches → Type 0
 LacksLimit m = (is_given m (codes "round") ≡ true) × (¬ (IsBetween 1 65536 (argument m (codes "limit"))))
 
+-- the number of a move is none
+abbrev pub LacksMove : ArgMatches → Type 0
+LacksMove m = IsSomeAnd (argument m (codes "move")) (λ text. ¬ (IsPlainNumber text))
+
 -- a number that the subcommand of this name was given isn't one, or is out of its bounds; for `spec` also no pid
 abbrev pub LacksNumber : List ℕ → ArgMatches → Type 0
 LacksNumber name m =
-    ((name ≡ codes "explain") × IsSomeAnd (argument m (codes "move")) (λ text. ¬ (IsPlainNumber text)))
+    ((name ≡ codes "explain") × LacksMove m)
     ⊎ ((name ≡ codes "explain") × LacksLimit m)
+    ⊎ ((name ≡ codes "state") × (¬ (IsBetween 0 4294967295 (argument m (codes "at")))))
+    ⊎ ((name ≡ codes "state") × LacksLimit m)
     ⊎ ((name ≡ codes "draw") × LacksLimit m)
     ⊎ ((name ≡ codes "run") × (¬ (IsBetween 1 65536 (argument m (codes "limit")))))
     ⊎ ((name ≡ codes "round") × (¬ (IsBetween 1 65536 (argument m (codes "limit")))))
@@ -329,7 +364,7 @@ pub record IsWithoutNumber (m : ArgMatches) : Type 0 where
 -- no subcommand was found, or one of another name
 abbrev pub NamesNoCommand : ArgMatches → Type 0
 NamesNoCommand m =
-    (subcommand_name_of m ≢ Some (codes "run")) × (subcommand_name_of m ≢ Some (codes "replay")) × (subcommand_name_of m ≢ Some (codes "explain")) × (subcommand_name_of m ≢ Some (codes "draw")) × (subcommand_name_of m ≢ Some (codes "round"))
+    (subcommand_name_of m ≢ Some (codes "run")) × (subcommand_name_of m ≢ Some (codes "replay")) × (subcommand_name_of m ≢ Some (codes "explain")) × (subcommand_name_of m ≢ Some (codes "state")) × (subcommand_name_of m ≢ Some (codes "draw")) × (subcommand_name_of m ≢ Some (codes "round"))
     × (subcommand_name_of m ≢ Some (codes "workers")) × (subcommand_name_of m ≢ Some (codes "spec")) × (subcommand_name_of m ≢ Some (codes "fun")) × (subcommand_name_of m ≢ Some (codes "explore")) × (subcommand_name_of m ≢ Some (codes "compare"))
 
 -- the subcommand that was found asks for it

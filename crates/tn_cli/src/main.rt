@@ -11,6 +11,7 @@ ghost use Rattle.tn_command.specs.Explorations.{IsExplorationStatus};
 
 mod format;
 mod output_bound;
+mod output_file;
 mod request;
 mod serve;
 mod value;
@@ -19,6 +20,7 @@ use clap::ArgMatches;
 use clap::error::ErrorKind;
 use format::format_of;
 use output_bound::most_of;
+use output_file::run_into_file;
 use request::request_of;
 use serve::serve;
 use std::alloc::{AllocError, Global};
@@ -189,6 +191,26 @@ fn matches_of<'a, R: Print + Eprint + AllocGlobal>(
     }
 }
 
+/// The file that the output goes to, where the words name one.
+fn output_path<'a>(matches: &ArgMatches<'a>) -> Option<&'a str> {
+    let (_, given) = matches.subcommand()?;
+    given.get_str("output")
+}
+
+/// Does what was read of the words, whose output goes to standard output or to a file.
+fn run_matches<R: Input + Files + Print + Eprint + AllocGlobal, T: Threads + Wait + Sync>(
+    rt: &R,
+    threads: &T,
+    matches: &ArgMatches<'_>,
+) -> ExitCode
+    ensures { IsExplorationStatus (exit_status result) }
+{
+    match output_path(matches) {
+        Some(path) => run_into_file(rt, threads, matches, path),
+        None => run_command(rt, threads, matches),
+    }
+}
+
 /// Does what the words of a command line say, which isn't `serve`.
 fn do_words<R: Input + Files + Print + Eprint + AllocGlobal, T: Threads + Wait + Sync>(
     rt: &R,
@@ -198,7 +220,7 @@ fn do_words<R: Input + Files + Print + Eprint + AllocGlobal, T: Threads + Wait +
     ensures { IsExplorationStatus (exit_status result) }
 {
     match matches_of(rt, words) {
-        Ok(matches) => run_command(rt, threads, &matches),
+        Ok(matches) => run_matches(rt, threads, &matches),
         Err(status) => status,
     }
 }
@@ -212,7 +234,7 @@ fn program<R: Input + Files + Print + Eprint + AllocGlobal + Threads + Wait + Sy
 {
     match matches_of(rt, words) {
         Ok(matches) if matches!(matches.subcommand_name(), Some("serve")) => serve(rt),
-        Ok(matches) => run_command(rt, rt, &matches),
+        Ok(matches) => run_matches(rt, rt, &matches),
         Err(status) => status,
     }
 }

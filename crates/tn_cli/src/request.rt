@@ -5,6 +5,7 @@ ghost use Rattle.tn_cli.specs.Requests.{number_given, IsNumberOrNone};
 ghost use Rattle.tn_cli.specs.Requests.{NamesProcess, NamesNoProcess, ArePicksOf, IsSourceNamed, Asks, IsAskedBy};
 ghost use Rattle.tn_cli.specs.Requests.{LacksLimit, LacksNumber, IsWithoutNumber, NamesNoCommand};
 ghost use Rattle.tn_cli.specs.Requests.{IsRunOf, takes_control_first, first_moves, form_given, order_named};
+ghost use Rattle.tn_cli.specs.Requests.{IsAskedOf, LacksMove, IsMessageAsked};
 ghost use Rattle.tn_cli.specs.Requests.{AreRandomRunsOf, LacksRandomNumber, listings_form_given, random_runs_given};
 ghost use Rattle.tn_expectation.specs.Expectations.{words_of};
 ghost use Rattle.tn_cli.specs.Requests.{IsExpectationOf, IsListingOf, IsSourceOrNone, texts_given};
@@ -17,11 +18,12 @@ use tn_explain::Filter;
 use tn_exploration::RandomRuns;
 use tn_picture::PictureFormat;
 use tn_request::{
-    ExpectationArgs, ExploreArgs, FunArgs, PicksSource, Request, RunRequest, RunSource,
-    SessionArgs, SpecTestArgs, WorkersRequest,
+    ExpectationArgs, ExploreArgs, FunArgs, MessageArgs, MessageRequest, PicksSource, Request,
+    RunRequest, RunSource, SessionArgs, SpecTestArgs, WorkersRequest,
 };
 use tn_search::ListingOrder;
 use tn_spec::Dialect;
+use tn_state::StateQuestion;
 
 /// A text that is no number for an option.
 fn not_number<'a>(option: &'static str, text: &'a str) -> BadValue<'a>
@@ -123,7 +125,7 @@ fn control_first(matches: &ArgMatches<'_>) -> bool
     matches!(matches.get_str("control"), Some("first"))
 }
 
-/// Which run is explained or drawn.
+/// Which run is explained or drawn, or has a state that is asked for.
 fn run_source<'a>(matches: &ArgMatches<'a>) -> Result<RunSource<'a>, BadValue<'a>>
     ensures run { IfOk result (IsRunOf matches.now) }
     ensures refused { IfErr result (λ e. LacksLimit matches.now) }
@@ -205,20 +207,74 @@ fn replay<'s, 'a: 's>(matches: &'s ArgMatches<'a>) -> Request<'s>
     })
 }
 
+/// The session and the move that are asked for, and whether only the moves are that a node does otherwise.
+fn filter<'a>(matches: &ArgMatches<'a>) -> Result<Filter<'a>, BadValue<'a>>
+    ensures asks { IfOk result (IsAskedOf matches.now) }
+    ensures refused { IfErr result (λ e. LacksMove matches.now) }
+{
+    let move_number = number_or_none(matches, "move", "--move <N>")?;
+    Ok(Filter {
+        session: matches.get_str("session").map(session_name),
+        move_number,
+        node: flag(matches, "node"),
+    })
+}
+
+/// The message by which moves are chosen, where one is asked for.
+fn message<'a>(matches: &ArgMatches<'a>) -> Option<MessageArgs<'a>>
+    ensures { IsMessageAsked matches.now result }
+{
+    if let Some(pattern) = matches.get_str("message") {
+        return Some(MessageArgs {
+            pattern,
+            is_missing: false,
+        });
+    }
+    let pattern = matches.get_str("why-not")?;
+    Some(MessageArgs {
+        pattern,
+        is_missing: true,
+    })
+}
+
 /// What `explain` asks for.
 fn explain<'s, 'a: 's>(matches: &'s ArgMatches<'a>) -> Result<Request<'s>, BadValue<'s>>
     ensures asks { IfOk result (Asks (codes "explain") matches.now) }
     ensures refused { IfErr result (λ e. LacksNumber (codes "explain") matches.now) }
 {
-    let move_number = number_or_none(matches, "move", "--move <N>")?;
+    let filter = filter(matches)?;
     let run = run_source(matches)?;
-    Ok(Request::Run(RunRequest::Explain {
+    let Some(message) = message(matches) else {
+        return Ok(Request::Run(RunRequest::Explain {
+            script: script(matches),
+            run,
+            filter,
+            message: None,
+            expectation: expectation(matches),
+        }));
+    };
+    Ok(Request::Message(MessageRequest {
         script: script(matches),
         run,
-        filter: Filter {
+        filter,
+        message,
+        expectation: expectation(matches),
+    }))
+}
+
+/// What `state` asks for.
+fn state<'s, 'a: 's>(matches: &'s ArgMatches<'a>) -> Result<Request<'s>, BadValue<'s>>
+    ensures asks { IfOk result (Asks (codes "state") matches.now) }
+    ensures refused { IfErr result (λ e. LacksNumber (codes "state") matches.now) }
+{
+    let move_number = number(matches, "at", "--at <N>", 0, 4294967295)?;
+    let run = run_source(matches)?;
+    Ok(Request::Run(RunRequest::State {
+        script: script(matches),
+        run,
+        question: StateQuestion {
             session: matches.get_str("session").map(session_name),
-            move_number,
-            node: flag(matches, "node"),
+            move_number: u64::from(move_number),
         },
         expectation: expectation(matches),
     }))
@@ -448,6 +504,7 @@ pub fn request_of<'s, 'a: 's>(
         Some(("run", given)) => Ok(Some(run(given)?)),
         Some(("replay", given)) => Ok(Some(replay(given))),
         Some(("explain", given)) => Ok(Some(explain(given)?)),
+        Some(("state", given)) => Ok(Some(state(given)?)),
         Some(("draw", given)) => Ok(Some(draw(given)?)),
         Some(("round", given)) => Ok(Some(round(given)?)),
         Some(("workers", given)) => Ok(Some(workers(given)?)),

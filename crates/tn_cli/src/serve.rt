@@ -33,7 +33,7 @@ fn answer<R: Files + AllocGlobal + Threads + Wait + Sync>(
 ) -> Result<Vec<u8>, RequestFault> {
     let ServeRequest { command, input } = request;
     let words = with_program(rt.alloc(), command)?;
-    let runtime = ServeRuntime::new(rt, input.as_bytes());
+    let runtime = ServeRuntime::with_input(rt, input.as_bytes());
     let status = do_words(&runtime, rt, &words);
     let Some((output, errors)) = runtime.into_texts() else {
         return Err(RequestFault::Memory);

@@ -104,6 +104,7 @@ fn account_notice(outcome: ExplainOutcome, name: &str, number: u64) -> Option<No
         ExplainOutcome::NoSession => Some(Notice::NoSession { name }),
         ExplainOutcome::NoMove => Some(Notice::NoMove { number }),
         ExplainOutcome::NoDifference => Some(Notice::NoNodeMove),
+        ExplainOutcome::NoMessage => Some(Notice::NoChosenMove),
     }
 }
 

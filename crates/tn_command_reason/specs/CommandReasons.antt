@@ -58,6 +58,10 @@ lent_terms t = option_map (λ b. tree_of b.now) t
 abbrev pub no_flag_text : Tree → List ℕ
 no_flag_text t = command_reason_text (reasons.no_flag t)
 
+-- that a term is no list of options
+abbrev pub no_options_text : Tree → List ℕ
+no_options_text t = command_reason_text (reasons.no_options t)
+
 -- that a process isn't alive
 abbrev pub not_alive_text : ℕ → List ℕ
 not_alive_text n = command_reason_text (reasons.not_alive n)

@@ -1,7 +1,7 @@
 // The texts of why a command is refused, matches no function, or has a trap.
-ghost use Rattle.std.specs.Prelude.{◌≡◌, ◌++◌, Some, IfOk, OnOk};
+ghost use Rattle.std.specs.Prelude.{◌≡◌, ◌++◌, drop, Some, None, IfOk, OnOk};
 ghost use Rattle.std.specs.Option.{option_map};
-ghost use Rattle.def_term.specs.Text.{w};
+ghost use Rattle.def_term.specs.Text.{w, is_among};
 ghost use Rattle.def_script.specs.Program.{mfa_of};
 ghost use Rattle.def_spec.specs.Flags.{flags_by_name};
 ghost use Rattle.def_session.specs.Commands.{fault_term};
@@ -9,20 +9,24 @@ ghost use Rattle.def_explain.specs.SpecReasons.{reason_fault};
 ghost use Rattle.def_explain.specs.CommandReasons.{reply_of};
 ghost use Rattle.def_explain.specs.Remarks.{reply_and_reason};
 ghost use Rattle.def_explain.specs.ReasonTexts.{found_text, flag_names, command_reason_text, reason_after_reply};
-ghost use Rattle.def_explain.specs.ReasonTexts.{mfa_text, meant_text};
-ghost use Rattle.tn_term.specs.Views.{tree_of};
+ghost use Rattle.def_explain.specs.ReasonTexts.{mfa_text, meant_text, flags_text, other_flags, dbg_flags, meant_in};
+ghost use Rattle.def_explain.specs.ReasonTexts.{near_flag, dbg_flag_text, flag_name_text};
+ghost use Rattle.def_explain.specs.ReasonTexts.{other_option_text, other_option_term_text};
+ghost use Rattle.def_explain.specs.ReasonTexts.{options_hint_text, option_hint_text};
+ghost use Rattle.tn_term.specs.Views.{tree_of, trees_of};
 ghost use Rattle.tn_script.specs.Views.{function_of};
 ghost use Rattle.tn_text.specs.Writes.{Grows};
 ghost use Rattle.tn_remark.specs.TextLines.{text_seen};
-ghost use Rattle.tn_command_reason.specs.CommandReasons.{command_reason_seen, command_reasons_seen, no_flag_text};
+ghost use Rattle.tn_command_reason.specs.CommandReasons.{command_reason_seen, command_reasons_seen, no_flag_text, no_options_text};
 ghost use Rattle.tn_command_reason.specs.CommandReasons.{not_alive_text, no_match_text, fault_of_name};
 ghost use Rattle.tn_command_reason.specs.HeldTraps.{spec_trap_seen};
 ghost use Rattle.tn_command_reason.specs.NearestFunctions.{lent_function};
-ghost use Rattle.tn_reason.specs.SpecReasons.{spec_reason_seen};
+ghost use Rattle.tn_reason.specs.SpecReasons.{spec_reason_seen, names_seen};
 
 use crate::command_reasons::CommandReason;
 use crate::held_trap::{SpecTrap, lent_trap};
 use std::alloc::{AllocError, Allocator};
+use tn_near_name::is_near;
 use tn_reason::{ClauseReason, ExpressionReason, SpecReason};
 use tn_script::Function;
 use tn_term::{Atom, Term};
@@ -52,7 +56,131 @@ fn flag_names() -> &'static [u8]
     b"send, 'receive', call, procs, silent, arity, set_on_spawn, set_on_first_spawn, set_on_link, set_on_first_link"
 }
 
-/// Appends that a term is no flag, and which flags there are.
+/// Appends which flags there are.
+fn put_flags<B: Allocator>(out: &mut Vec<u8, B>) -> Result<(), AllocError>
+    ensures ok { OnOk result (out.new.items ≡ out.old.items ++ flags_text) }
+    ensures grows { Grows out.old.items out.new.items }
+{
+    out.extend_from_slice(b"; the flags are ")?;
+    out.extend_from_slice(flag_names())
+}
+
+/// Whether OTP 27 has a flag of this name that isn't modelled.
+fn is_other_flag(text: &str) -> bool
+    ensures { result ≡ is_among other_flags text.now }
+{
+    match text {
+        "all" => true,
+        "running" => true,
+        "running_procs" => true,
+        "exiting" => true,
+        "garbage_collection" => true,
+        "return_to" => true,
+        "timestamp" => true,
+        "cpu_timestamp" => true,
+        "monotonic_timestamp" => true,
+        "strict_monotonic_timestamp" => true,
+        "ports" => true,
+        "running_ports" => true,
+        _ => false,
+    }
+}
+
+/// The flags that dbg calls by this name.
+fn dbg_flags(text: &str) -> Option<&'static [u8]>
+    ensures { names_seen result ≡ meant_in dbg_flags text.now }
+{
+    match text {
+        "m" => Some(b"[send,'receive']"),
+        "s" => Some(b"send"),
+        "r" => Some(b"'receive'"),
+        "c" => Some(b"call"),
+        "p" => Some(b"procs"),
+        "sos" => Some(b"set_on_spawn"),
+        "sofs" => Some(b"set_on_first_spawn"),
+        "sol" => Some(b"set_on_link"),
+        "sofl" => Some(b"set_on_first_link"),
+        _ => None,
+    }
+}
+
+/// The written name of one of the last four flags, where its name is near to this one.
+#[tactic(auto, unfolding(def_term::specs::Text::is_written_bare))]
+fn near_inherited_flag(text: &str) -> Option<&'static [u8]>
+    ensures { names_seen result ≡ near_flag (drop 6 flags_by_name) text.now }
+{
+    if is_near(text, "set_on_spawn") {
+        return Some(b"set_on_spawn");
+    }
+    if is_near(text, "set_on_first_spawn") {
+        return Some(b"set_on_first_spawn");
+    }
+    if is_near(text, "set_on_link") {
+        return Some(b"set_on_link");
+    }
+    if is_near(text, "set_on_first_link") {
+        return Some(b"set_on_first_link");
+    }
+    None
+}
+
+/// The written name of the first flag whose name is near to this one.
+#[tactic(auto, unfolding(def_term::specs::Text::is_written_bare))]
+fn near_flag(text: &str) -> Option<&'static [u8]>
+    ensures { names_seen result ≡ near_flag flags_by_name text.now }
+{
+    if is_near(text, "send") {
+        return Some(b"send");
+    }
+    if is_near(text, "receive") {
+        return Some(b"'receive'");
+    }
+    if is_near(text, "call") {
+        return Some(b"call");
+    }
+    if is_near(text, "procs") {
+        return Some(b"procs");
+    }
+    if is_near(text, "silent") {
+        return Some(b"silent");
+    }
+    if is_near(text, "arity") {
+        return Some(b"arity");
+    }
+    near_inherited_flag(text)
+}
+
+/// Appends which flag is meant by a name that dbg doesn't have either, or all.
+fn put_near_flag<B: Allocator>(text: &str, out: &mut Vec<u8, B>) -> Result<(), AllocError>
+    ensures ok { OnOk result (out.new.items ≡ out.old.items ++ dbg_flag_text text.now None) }
+    ensures grows { Grows out.old.items out.new.items }
+{
+    let Some(flag) = near_flag(text) else {
+        return put_flags(out);
+    };
+    out.extend_from_slice(b"; is ")?;
+    out.extend_from_slice(flag)?;
+    out.extend_from_slice(b" meant?")
+}
+
+/// Appends what a name that is no flag is elsewhere, or which flag is meant.
+fn put_flag_name<B: Allocator>(text: &str, out: &mut Vec<u8, B>) -> Result<(), AllocError>
+    ensures ok { OnOk result (out.new.items ≡ out.old.items ++ flag_name_text text.now) }
+    ensures grows { Grows out.old.items out.new.items }
+{
+    if is_other_flag(text) {
+        out.extend_from_slice(b": it is a flag of OTP 27 that isn't modelled")?;
+        return put_flags(out);
+    }
+    let Some(flags) = dbg_flags(text) else {
+        return put_near_flag(text, out);
+    };
+    out.extend_from_slice(b": in dbg it is ")?;
+    out.extend_from_slice(flags)?;
+    put_flags(out)
+}
+
+/// Appends that a term is no flag, and what it is elsewhere, or which flags there are.
 fn put_no_flag<A: Allocator, B: Allocator>(
     term: &Term<A>,
     out: &mut Vec<u8, B>,
@@ -62,9 +190,68 @@ fn put_no_flag<A: Allocator, B: Allocator>(
 {
     out.extend_from_slice(b"no flag ")?;
     write_term(term, out)?;
-    out.extend_from_slice(b"; the flags are ")?;
-    out.extend_from_slice(flag_names())?;
-    Ok(())
+    match term {
+        Term::Atom(name) => put_flag_name(name.text(), out),
+        _ => put_flags(out),
+    }
+}
+
+/// That an option of OTP 27 isn't modelled, where this is its name.
+#[tactic(auto, unfolding(def_term::specs::Text::is_written_bare))]
+fn other_option(text: &str) -> Option<&'static [u8]>
+    ensures { names_seen result ≡ other_option_text text.now }
+{
+    match text {
+        "meta" => Some(b": meta of OTP 27 isn't modelled"),
+        "call_count" => Some(b": call_count of OTP 27 isn't modelled"),
+        "call_time" => Some(b": call_time of OTP 27 isn't modelled"),
+        "call_memory" => Some(b": call_memory of OTP 27 isn't modelled"),
+        _ => None,
+    }
+}
+
+/// That of an option which isn't modelled, where a term is one.
+fn other_option_term<A: Allocator>(term: &Term<A>) -> Option<&'static [u8]>
+    ensures { names_seen result ≡ other_option_term_text (tree_of term.now) }
+{
+    match term {
+        Term::Atom(name) => other_option(name.text()),
+        _ => None,
+    }
+}
+
+/// That of the first of several terms of which it can be said.
+fn other_options<A: Allocator>(terms: &Vec<Term<A>, A>) -> &'static [u8]
+    ensures { result.now ≡ options_hint_text (trees_of terms.now.items) }
+{
+    for i in 0..terms.len() {
+        if let Some(text) = other_option_term(&terms[i]) {
+            return text;
+        }
+    }
+    b""
+}
+
+/// That of the options of a command.
+fn option_hint<A: Allocator>(term: &Term<A>) -> &'static [u8]
+    ensures { result.now ≡ option_hint_text (tree_of term.now) }
+{
+    match term {
+        Term::List(terms) => other_options(terms),
+        _ => b"",
+    }
+}
+
+/// Appends what options there are, and what there is in their place.
+fn put_no_options<A: Allocator, B: Allocator>(
+    term: &Term<A>,
+    out: &mut Vec<u8, B>,
+) -> Result<(), AllocError>
+    ensures ok { OnOk result (out.new.items ≡ out.old.items ++ no_options_text (tree_of term.now)) }
+    ensures grows { Grows out.old.items out.new.items }
+{
+    put_found(b"Opts is [], [global] or [local]", term, out)?;
+    out.extend_from_slice(option_hint(term))
 }
 
 /// Appends that the process of a pid isn't alive.
@@ -156,9 +343,7 @@ fn put_command_reason<A: Allocator, B: Allocator>(
             term,
             out,
         ),
-        CommandReason::NoOptions(term) => {
-            put_found(b"Opts is [], [global] or [local]", term, out)
-        }
+        CommandReason::NoOptions(term) => put_no_options(term, out),
         CommandReason::NoSpecification(why) => put_setting_reason(why, out),
         CommandReason::NoMatch(nearest) => put_no_match(nearest, out),
         CommandReason::NoExportedMatch => {

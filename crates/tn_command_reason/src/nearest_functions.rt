@@ -1,11 +1,13 @@
 // Of functions that a command asks for and that aren't there, the one that was probably meant.
 ghost use Rattle.std.specs.Prelude.{◌≡◌};
-ghost use Rattle.def_explain.specs.NearestFunctions.{has_module, has_name, has_both, nearest_to, nearest_function};
+ghost use Rattle.def_explain.specs.NearestFunctions.{has_module, has_name, has_both, has_near_name};
+ghost use Rattle.def_explain.specs.NearestFunctions.{nearest_in_module, nearest_to, nearest_function};
 ghost use Rattle.tn_index.specs.Views.{function_pattern_seen};
 ghost use Rattle.tn_command_reason.specs.NearestFunctions.{IsFirstFunction, functions_seen, lent_function};
 
 use std::alloc::Allocator;
 use tn_index::FunctionPattern;
+use tn_near_name::is_near;
 use tn_script::Function;
 use tn_term::Atom;
 
@@ -58,7 +60,38 @@ fn first_of_module<'a, A: Allocator>(
     None
 }
 
-/// The first with this module and name, else with this name, else of this module.
+/// The first of the functions of this module whose name is near.
+fn first_of_near_name<'a, A: Allocator>(
+    functions: &'a [Function<A>],
+    module: &Atom<A>,
+    name: &Atom<A>,
+) -> Option<&'a Function<A>>
+    ensures { IsFirstFunction (has_near_name module.now name.now) functions.now result }
+{
+    for i in 0..functions.len() {
+        let function = &functions[i];
+        if module.text() == function.module.text() && is_near(name.text(), function.name.text()) {
+            return Some(function);
+        }
+    }
+    None
+}
+
+/// The first of this module whose name is near, else the first of this module.
+fn nearest_in_module<'a, A: Allocator>(
+    functions: &'a [Function<A>],
+    module: &Atom<A>,
+    name: &Atom<A>,
+) -> Option<&'a Function<A>>
+    ensures { lent_function result ≡ nearest_in_module module.now name.now (functions_seen functions.now) }
+{
+    if let Some(function) = first_of_near_name(functions, module, name) {
+        return Some(function);
+    }
+    first_of_module(functions, module)
+}
+
+/// The first with this module and name, else with this name, else the nearest of this module.
 fn nearest_to<'a, A: Allocator>(
     functions: &'a [Function<A>],
     module: &Atom<A>,
@@ -72,7 +105,7 @@ fn nearest_to<'a, A: Allocator>(
     if let Some(function) = first_of_name(functions, name) {
         return Some(function);
     }
-    first_of_module(functions, module)
+    nearest_in_module(functions, module, name)
 }
 
 /// The function that was probably meant by these, of which none is there.

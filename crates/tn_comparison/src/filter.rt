@@ -6,11 +6,18 @@ use std::alloc::{AllocError, Allocator};
 use tn_messages::{KeptListings, RunFilter};
 
 impl<P: Allocator, A: Allocator + Copy> RunFilter<A> for TraceQuestion<P> {
+    ghost use Rattle.std.specs.Prelude.{false};
     ghost use Rattle.tn_comparison.specs.Matches.{admits_by};
 
     ghost admits = { admits_by };
 
+    ghost leaves_out = { λ filter. false };
+
     fn is_open(&self) -> bool {
+        false
+    }
+
+    fn is_reduced(&self) -> bool {
         false
     }
 

@@ -12,5 +12,6 @@ pub mod ItemTexts
 pub mod BeforePicks
 pub mod DifferenceLines
 pub mod NodeMoveTexts
+pub mod ChosenMoveTexts
 mod CommandDifferences
 mod Explanations

@@ -50,7 +50,7 @@ module _ (a : Filter) (p : Program) (picks : List ℕ) (entry : JournalEntry) (s
   number = next.numbered ∙ sym (ap (λ js. suc (length js)) next.all)
 
   -- what the sessions make of the move
-  text_of_move : text_of_pick a p picks entry.pick ≡ filtered_text a (suc (length (moves p picks))) (entries_of_move (exports_of p) (outlook_after p picks entry.pick) (suc (length (moves p picks))) entry.pick (sessions_after p picks) (pick_step_after p picks entry.pick).shown)
+  pub text_of_move : text_of_pick a p picks entry.pick ≡ filtered_text a (suc (length (moves p picks))) (entries_of_move (exports_of p) (outlook_after p picks entry.pick) (suc (length (moves p picks))) entry.pick (sessions_after p picks) (pick_step_after p picks entry.pick).shown)
   text_of_move =
       ap (λ b. filtered_text a (suc (length (moves p picks))) (if b then entries_of_move (exports_of p) (outlook_after p picks entry.pick) (suc (length (moves p picks))) entry.pick (sessions_after p picks) (pick_step_after p picks entry.pick).shown else [])) next.moved
 

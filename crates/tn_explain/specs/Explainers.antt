@@ -13,8 +13,13 @@ use Rattle.tn_running_node.specs.NodeMoves.{outlook_after, HasCompared, lines_of
 use Rattle.tn_explain.specs.Filters.{selection_seen, filtered_text}
 use Rattle.tn_explain.specs.NamedSessions.{AreNamedSessions}
 use Rattle.tn_explain.specs.declared.explainer.Explainer.{Explainer}
+use Rattle.tn_explain.specs.declared.message_explainer.MessageExplainer.{MessageExplainer}
 use Rattle.tn_explain.specs.declared.node_explainer.NodeExplainer.{NodeExplainer}
 use Rattle.def_running_node.specs.NodeNotes.{text_of_node_move}
+use Rattle.def_message_choice.specs.MessageChoices.{MessageChoice}
+use Rattle.def_message_choice.specs.ChosenAccounts.{text_of_chosen}
+use Rattle.tn_message_choice.specs.Choices.{choice_seen}
+use Rattle.tn_message_choice.specs.Choosers.{AreChoosers}
 
 -- the explainer's sessions are those of the program after these picks
 abbrev pub HasExplained : {A : Type 0} → Explainer A → Program → List ℕ → Type 0
@@ -56,3 +61,24 @@ node_text_of_pick a p picks pick = if (pick_step_after p picks pick).moved then 
 pub record AddsNodeExplanation {A : Type 0} (p : Program) (picks : List ℕ) (pick : ℕ) (old new : NodeExplainer A) (text text' : Vec ℕ A) : Type 0 where
   pub filter : new.explainer.selection ≡ old.explainer.selection
   pub written : text'.items ≡ text.items ++ node_text_of_pick (selection_seen old.explainer.selection) p picks pick
+
+-- ---- the moves that are chosen by a message
+
+-- the same, and the sessions that choose are those of the program
+pub record HasExplainedChosen {A : Type 0} (e : MessageExplainer A) (p : Program) (picks : List ℕ) : Type 0 where
+  pub explained : HasExplained e.explainer p picks
+  pub choosers : AreChoosers (exports_of p) (sessions_after p picks) e.choosers
+
+-- one more pick that moves, and its text where it is chosen
+abbrev pub chosen_text_of_next : MessageChoice → Filter → Program → List ℕ → ℕ → List ℕ
+chosen_text_of_next c a p picks pick = text_of_chosen c (exports_of p) a (history_of_next p picks pick)
+
+-- of one more pick, where it moves
+abbrev pub chosen_text_of_pick : MessageChoice → Filter → Program → List ℕ → ℕ → List ℕ
+chosen_text_of_pick c a p picks pick = if (pick_step_after p picks pick).moved then chosen_text_of_next c a p picks pick else []
+
+-- it was appended, and the same is asked for as before
+pub record AddsChosenExplanation {A : Type 0} (p : Program) (picks : List ℕ) (pick : ℕ) (old new : MessageExplainer A) (text text' : Vec ℕ A) : Type 0 where
+  pub filter : new.explainer.selection ≡ old.explainer.selection
+  pub choice : new.choice ≡ old.choice
+  pub written : text'.items ≡ text.items ++ chosen_text_of_pick (choice_seen old.choice) (selection_seen old.explainer.selection) p picks pick

@@ -1,16 +1,19 @@
 -- What the code's question for an account stands for, and the text that it gets.
-use Rattle.std.specs.Prelude.{ℕ, Bool, ◌&&◌, List, [], ◌∷◌, flat_map}
+use Rattle.std.specs.Prelude.{ℕ, Bool, ◌&&◌, List, [], ◌∷◌, flat_map, Option}
 use Rattle.std.specs.Option.{option_map}
 use Rattle.def_run.specs.Run.{event_item, command_item}
 use Rattle.def_explain.specs.Runs.{AccountEntry, shows, shows_nothing}
 use Rattle.def_explain.specs.RunTexts as definition
 use Rattle.def_explain.specs.RunTexts.{is_session, is_move, entry_text, filter_entries, account_text}
 use Rattle.def_running_node.specs.NodeNotes.{Question, question_text, node_account_text}
+use Rattle.def_message_choice.specs.ChosenAccounts.{chosen_account_text, AccountQuestion, account_question_text}
 use Rattle.tn_flags.specs.Views.{event_of, command_of}
 use Rattle.tn_flags.specs.declared.event.Event.{Event}
 use Rattle.tn_flags.specs.declared.command.Command.{Command}
 use Rattle.tn_program.specs.Views.{program_of}
 use Rattle.tn_program.specs.declared.parts.Program.{Program}
+use Rattle.tn_message_choice.specs.Choices.{choice_seen}
+use Rattle.tn_message_choice.specs.declared.choice.MessageChoice.{MessageChoice}
 use Rattle.tn_explain.specs.declared.filter.Filter.{Filter}
 use Rattle.tn_explain.specs.declared.selection.Selection.{Selection}
 use Rattle.tn_explain.specs.declared.step.Step.{Step}
@@ -20,6 +23,10 @@ selection_seen a = record { session = option_map (λ s. s.now) a.session; move =
 
 abbrev pub question_seen : Filter → Question
 question_seen a = record { filter = record { session = option_map (λ s. s.now) a.session; move = a.move_number }; node = a.node }
+
+-- with the message that is asked for, where one is
+abbrev pub account_question_seen : Filter → Option MessageChoice → AccountQuestion
+account_question_seen a m = record { question = question_seen a; message = option_map choice_seen m }
 
 -- the text of those of the entries that are selected, after the move of this number
 abbrev pub filtered_text : definition.Filter → ℕ → List AccountEntry → List ℕ
@@ -56,3 +63,11 @@ node_moves_of a program picks = node_account_text (selection_seen a) (program_of
 -- the account of the program's run by these picks, as far as it is asked for
 abbrev pub account_of : {A : Type 0} → Filter → Program A → List ℕ → List ℕ
 account_of filter program picks = question_text (question_seen filter) (program_of program) picks
+
+-- the same of the moves alone that are chosen by a message
+abbrev pub chosen_moves_of : {A : Type 0} → MessageChoice → Selection → Program A → List ℕ → List ℕ
+chosen_moves_of c a program picks = chosen_account_text (choice_seen c) (selection_seen a) (program_of program) picks
+
+-- the account, or where a message is asked for that of the moves that are chosen by it
+abbrev pub asked_of : {A : Type 0} → Filter → Option MessageChoice → Program A → List ℕ → List ℕ
+asked_of filter m program picks = account_question_text (account_question_seen filter m) (program_of program) picks

@@ -4,12 +4,15 @@ ghost use Rattle.tn_program.specs.Views.{program_of};
 ghost use Rattle.tn_text.specs.Writes.{Grows};
 ghost use Rattle.tn_moves.specs.Plans.{plan_picks};
 ghost use Rattle.tn_explain.specs.Filters.{account_of, selected_of, node_moves_of};
+ghost use Rattle.tn_explain.specs.Filters.{chosen_moves_of, asked_of};
 
 use crate::explainer::Explainer;
 use crate::filter::Filter;
+use crate::message_explainer::MessageExplainer;
 use crate::node_explainer::NodeExplainer;
 use crate::selection::Selection;
 use std::alloc::{AllocError, Allocator};
+use tn_message_choice::{Choosers, MessageChoice};
 use tn_moves::{Plan, drive};
 use tn_program::Program;
 use tn_running_node::Comparison;
@@ -101,4 +104,51 @@ pub fn put_account<A: Allocator + Copy>(
         out.truncate(len);
     }
     done
+}
+
+/// Appends the text of what is selected of the moves that are chosen by a message; after an `Err` a part of it may
+/// stand there.
+fn put_chosen_moves<'a, A: Allocator + Copy>(
+    alloc: A,
+    program: &Program<A>,
+    plan: &Plan<'_, A>,
+    selection: &Selection<'a>,
+    choice: MessageChoice<'a>,
+    out: &mut Vec<u8, A>,
+) -> Result<(), AllocError>
+    ensures { let picks = plan_picks (program_of program.now) plan.now in
+        OnOk result (out.new.items ≡ out.old.items ++ chosen_moves_of choice.entry selection.now program.now picks) }
+{
+    let explainer = Explainer::new(alloc, program, selection)?;
+    let choosers = Choosers::new(alloc, program)?;
+    let observer = MessageExplainer {
+        explainer,
+        choice,
+        choosers,
+    };
+    drive(alloc, program, plan, observer, out)?;
+    Ok(())
+}
+
+/// Appends the account, or where a message is asked for that of the moves that are chosen by it; after an `Err` a part
+/// of it may stand there.
+pub(crate) fn put_asked<'a, A: Allocator + Copy>(
+    alloc: A,
+    program: &Program<A>,
+    plan: &Plan<'_, A>,
+    filter: &Filter<'a>,
+    message: Option<MessageChoice<'a>>,
+    out: &mut Vec<u8, A>,
+) -> Result<(), AllocError>
+    ensures { let picks = plan_picks (program_of program.now) plan.now in
+        OnOk result (out.new.items ≡ out.old.items ++ asked_of filter.now message.entry program.now picks) }
+{
+    let Some(choice) = message else {
+        return put_account(alloc, program, plan, filter, out);
+    };
+    let selection = Selection {
+        session: filter.session,
+        move_number: filter.move_number,
+    };
+    put_chosen_moves(alloc, program, plan, &selection, choice, out)
 }

@@ -26,7 +26,7 @@ fn explanation<A: Allocator + Copy>(
     ensures { IfOk result (λ r. IsExplanation request.now (program_of program.now) r.0 r.1.items) }
 {
     match request.schedule.plan(alloc, program, picks) {
-        Ok(plan) => account_of(alloc, program, &plan, &request.filter),
+        Ok(plan) => account_of(alloc, program, &plan, &request.filter, request.message),
         Err(MovesFault::Refused(refusal)) => Ok((
             ExplainOutcome::Refused(RunRefusal::Moves(refusal)),
             Vec::new(alloc),
@@ -62,6 +62,7 @@ impl<A: Allocator + Copy> Job<A> for ExplainRequest<'_> {
             ExplainOutcome::NoSession => false,
             ExplainOutcome::NoMove => false,
             ExplainOutcome::NoDifference => true,
+            ExplainOutcome::NoMessage => false,
         }
     }
 
@@ -85,8 +86,8 @@ impl<A: Allocator + Copy> DirectJob<A> for ExplainRequest<'_> {
 }
 
 /// Explains the run of the script that the reader holds: writes what each of its moves showed and what each
-/// session made of it, or the line of the refusal, or nothing where the moves are refused, or the session or the move
-/// that is asked for isn't there, as `tn_run::transact` says. Bad picks are found before anything is read.
+/// session made of it, or the line of the refusal, or nothing where the moves are refused, or the session, the move or
+/// the message that is asked for isn't there, as `tn_run::transact` says. Bad picks are found before anything is read.
 pub fn explain<A: Allocator + Copy, R: Read, W: Write>(
     alloc: A,
     reader: &mut Watched<R>,

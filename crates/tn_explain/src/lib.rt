@@ -1,8 +1,8 @@
 //! A run that is explained: what each move shows, and what each session makes of it, line by line.
 //!
-//! Depends on tn_trace, tn_moves, tn_verdict, tn_command_reason, tn_run, tn_running_node and def_explain. Promises that
-//! `put_event_lines` and the like append the defined lines, and that `explain` writes the defined account, as far as
-//! the filter asks, or the line of the one refusal.
+//! Depends on tn_trace, tn_moves, tn_verdict, tn_command_reason, tn_run, tn_running_node, tn_message_choice and
+//! def_explain. Promises that `put_event_lines` and the like append the defined lines, and that `explain` writes the
+//! defined account, as far as the filter and the message ask, or the line of the one refusal.
 #![tactic(auto)]
 
 mod account;
@@ -22,6 +22,7 @@ mod item_text;
 mod job;
 mod limits;
 mod line;
+mod message_explainer;
 mod messages;
 mod node_explainer;
 mod request;

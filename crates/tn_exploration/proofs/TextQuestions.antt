@@ -15,7 +15,7 @@ use Rattle.tn_message_pattern.specs.declared.reading.PatternReading.{PatternRead
 use Rattle.tn_message_pattern.specs.declared.reading.PatternReading.TheVariants as readings
 use Rattle.tn_message_pattern.specs.declared.message_pattern.PatternQuestion.{PatternQuestion}
 use Rattle.tn_trace.specs.Slots.{EachPair}
-use Rattle.tn_exploration.specs.Questions.{AddsQuestion, AddsQuestions, IsQuestionOf, IsQuestionFault, IsTextsFault, IsNoPattern}
+use Rattle.tn_exploration.specs.Questions.{AddsQuestion, AddsQuestions, IsPatternOf, IsQuestionOf, IsQuestionFault, IsTextsFault, IsNoPattern}
 use Rattle.tn_exploration.specs.declared.questions.QuestionsFault.{QuestionsFault}
 use Rattle.tn_exploration.specs.declared.questions.QuestionsFault.TheVariants.{NoPattern, OutOfMemory}
 
@@ -52,18 +52,21 @@ fault_of_one texts i none (NoPattern it reason) below (same, why) =
     (subst (Contains (map (λ t. t.now) texts)) (sym same) (text_there texts i none below), subst (λ text. IsNoPattern text reason.now) (sym same) why)
 fault_of_one texts i none OutOfMemory below is = tt
 
--- the pattern that a text spells comes after the others
-pub question_added : {A : Type 0} (text bytes : List ℕ) (reading : PatternReading A) (pattern : MessagePattern A) (demand : Demand) (old new : List (PatternQuestion A)) → bytes ≡ text → reading ≡ readings.Pattern pattern → IsPatternReading bytes reading
-    → new ≡ old ++ record { pattern = pattern; demand = demand } ∷ [] → AddsQuestion (demand_seen demand) text old new
-question_added {A} text bytes reading pattern demand old new same is given longer = added (subst (IsPatternReading bytes) is given)
+-- the pattern that a text spells
+pub pattern_read : {A : Type 0} (text bytes : List ℕ) (reading : PatternReading A) (pattern : MessagePattern A) → bytes ≡ text → reading ≡ readings.Pattern pattern → IsPatternReading bytes reading → IsPatternOf text pattern
+pattern_read {A} text bytes reading pattern same is given = read (subst (IsPatternReading bytes) is given)
   where
-    added : IsPatternReading bytes (readings.Pattern pattern) → AddsQuestion (demand_seen demand) text old new
-    added (t, spelled, is_read) = (
-      pattern_question_seen {A = A} (record { pattern = pattern; demand = demand }),
-      record {
-        spelled = subst (λ b. Spells b (tree_of pattern.term)) same (subst (Spells bytes) (sym is_read.0) spelled);
-        pattern = ap pattern_of is_read.0 ∙ is_read.1;
-        demand = refl;
-      },
-      ap (map pattern_question_seen) longer ∙ map-append pattern_question_seen old (record { pattern = pattern; demand = demand } ∷ []),
-    )
+    read : IsPatternReading bytes (readings.Pattern pattern) → IsPatternOf text pattern
+    read (t, spelled, is_read) = record {
+      spelled = subst (λ b. Spells b (tree_of pattern.term)) same (subst (Spells bytes) (sym is_read.0) spelled);
+      pattern = ap pattern_of is_read.0 ∙ is_read.1;
+    }
+
+-- it comes after the others
+pub question_added : {A : Type 0} (text : List ℕ) (pattern : MessagePattern A) (demand : Demand) (old new : List (PatternQuestion A)) → IsPatternOf text pattern
+    → new ≡ old ++ record { pattern = pattern; demand = demand } ∷ [] → AddsQuestion (demand_seen demand) text old new
+question_added {A} text pattern demand old new is longer = (
+  pattern_question_seen {A = A} (record { pattern = pattern; demand = demand }),
+  record { spelled = is.spelled; pattern = is.pattern; demand = refl },
+  ap (map pattern_question_seen) longer ∙ map-append pattern_question_seen old (record { pattern = pattern; demand = demand } ∷ []),
+)

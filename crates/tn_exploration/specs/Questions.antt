@@ -8,7 +8,10 @@ use Rattle.def_spec.specs.Reading.{SpecFault, pattern_of}
 use Rattle.def_explore.specs.Words as words
 use Rattle.tn_message_pattern.specs.Questions.{pattern_question_seen}
 use Rattle.tn_message_pattern.specs.Readings.{IsNoTerm}
+use Rattle.tn_message_pattern.specs.declared.message_pattern.MessagePattern.{MessagePattern}
 use Rattle.tn_message_pattern.specs.declared.message_pattern.PatternQuestion.{PatternQuestion}
+use Rattle.tn_spec.specs.Views.{pattern_seen}
+use Rattle.tn_term.specs.Views.{tree_of}
 use Rattle.tn_text.specs.declared.fault.TextFault.{TextFault}
 use Rattle.tn_text.specs.declared.fault.TextFault.TheVariants as faults
 use Rattle.tn_trace.specs.Slots.{EachPair}
@@ -20,6 +23,11 @@ pub record IsQuestionOf (d : words.Demand) (text : List ℕ) (q : words.PatternQ
   pub spelled : Spells text q.term
   pub pattern : pattern_of q.term ≡ Ok q.pattern
   pub demand : q.demand ≡ d
+
+-- the text spells the term of this pattern
+pub record IsPatternOf {A : Type 0} (text : List ℕ) (a : MessagePattern A) : Type 0 where
+  pub spelled : Spells text (tree_of a.term)
+  pub pattern : pattern_of (tree_of a.term) ≡ Ok (pattern_seen a.pattern)
 
 -- it comes after those before
 abbrev pub AddsQuestion : {A : Type 0} → words.Demand → List ℕ → (old new : List (PatternQuestion A)) → Type 0

@@ -5,7 +5,8 @@
 //! runs, or of random runs, each about one session, with the move by which a run departs from a trace that none shows,
 //! or the line of the one refusal; that its outcome says whether more states could change what is written, which of
 //! random runs they always could, and whether what is demanded of a pattern is refuted or a trace is impossible; and
-//! that `add_questions` adds the patterns that texts spell, or says why one spells none.
+//! that `pattern_of_text` answers the pattern that a text spells, and `add_questions` adds those of several, or why one
+//! spells none.
 #![tactic(auto)]
 
 mod departures;
@@ -17,5 +18,5 @@ mod searches;
 mod sessions;
 
 pub use job::explore;
-pub use questions::{QuestionsFault, add_questions};
+pub use questions::{QuestionsFault, add_questions, pattern_of_text};
 pub use request::{ExploreOutcome, ExploreRequest, RandomRuns};

@@ -1,11 +1,11 @@
 // The patterns that texts spell, with what is demanded of them.
 ghost use Rattle.std.specs.Prelude.{◌≡◌, IfErr, IfOk, map};
 ghost use Rattle.tn_exploration.specs.Questions.{AddsQuestion, AddsQuestions, IsQuestionFault, IsTextsFault};
-ghost use Rattle.tn_exploration.specs.Questions.{no_term_words};
+ghost use Rattle.tn_exploration.specs.Questions.{no_term_words, IsPatternOf};
 ghost use Rattle.tn_message_pattern.specs.Questions.{demand_seen};
 
 use std::alloc::Allocator;
-use tn_message_pattern::{Demand, PatternQuestion, PatternReading, read_pattern};
+use tn_message_pattern::{Demand, MessagePattern, PatternQuestion, PatternReading, read_pattern};
 use tn_text::TextFault;
 
 /// Why texts aren't all patterns.
@@ -30,6 +30,32 @@ fn no_term_words(fault: TextFault) -> &'static str
     }
 }
 
+/// The pattern that a text spells.
+///
+/// # Errors
+///
+/// QuestionsFault where it spells none, or memory was refused.
+pub fn pattern_of_text<'a, A: Allocator + Copy>(
+    alloc: A,
+    text: &'a str,
+) -> Result<MessagePattern<A>, QuestionsFault<'a>>
+    ensures pattern { IfOk result (IsPatternOf text.now) }
+    ensures refused { IfErr result (IsQuestionFault text.now) }
+{
+    match read_pattern(alloc, text.as_bytes()) {
+        Ok(PatternReading::Pattern(pattern)) => Ok(pattern),
+        Ok(PatternReading::NoTerm(fault)) => {
+            let reason = no_term_words(fault);
+            Err(QuestionsFault::NoPattern { text, reason })
+        }
+        Ok(PatternReading::NoPattern) => {
+            let reason = "an atom of $ and a number in it is no variable";
+            Err(QuestionsFault::NoPattern { text, reason })
+        }
+        Err(_) => Err(QuestionsFault::OutOfMemory),
+    }
+}
+
 /// Adds the pattern that a text spells.
 fn add_question<'a, A: Allocator + Copy>(
     alloc: A,
@@ -41,18 +67,7 @@ fn add_question<'a, A: Allocator + Copy>(
         questions.old.items questions.new.items) }
     ensures refused { IfErr result (IsQuestionFault text.now) }
 {
-    let pattern = match read_pattern(alloc, text.as_bytes()) {
-        Ok(PatternReading::Pattern(pattern)) => pattern,
-        Ok(PatternReading::NoTerm(fault)) => {
-            let reason = no_term_words(fault);
-            return Err(QuestionsFault::NoPattern { text, reason });
-        }
-        Ok(PatternReading::NoPattern) => {
-            let reason = "an atom of $ and a number in it is no variable";
-            return Err(QuestionsFault::NoPattern { text, reason });
-        }
-        Err(_) => return Err(QuestionsFault::OutOfMemory),
-    };
+    let pattern = pattern_of_text(alloc, text)?;
     let Ok(()) = questions.push(PatternQuestion { pattern, demand }) else {
         return Err(QuestionsFault::OutOfMemory);
     };

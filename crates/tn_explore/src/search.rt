@@ -1,5 +1,5 @@
 // The search through all states, a layer at a time.
-ghost use Rattle.std.specs.Prelude.{◌≡◌, ◌+◌, ℕ, List, [], ◌∷◌, ◌++◌, IfOk, IsTrue, map, true};
+ghost use Rattle.std.specs.Prelude.{◌≡◌, ◌+◌, ℕ, List, [], ◌∷◌, ◌++◌, IfOk, IfSome, IfNone, IsTrue, map, true};
 ghost use Rattle.def_explore.specs.Answers.{RestEntry};
 ghost use Rattle.def_run.specs.Run.{moves};
 ghost use Rattle.tn_explore.specs.Query.{Query, AdmitsFor};
@@ -71,14 +71,15 @@ fn try_state<A: Allocator + Copy, S: SearchState<A>>(
     ensures { IfOk result (λ _. (a : Query) (depth : ℕ) → S.filters filter.now a →
         AreAt S.journal (S.is_of context.now) a (depth + 1) next.old.states.items →
         IsAt S.journal (S.is_of context.now) a depth state.now →
-        TriesState S.journal (S.is_of context.now) a (depth + 1) state.now next.old.states.items next.new.states.items
+        TriesState S.journal (S.is_of context.now) (S.leaves_out filter.now) a (depth + 1) state.now
+        next.old.states.items next.new.states.items
         (answer_entries S.kept_seen answers.old.entries) (answer_entries S.kept_seen answers.new.entries)) }
 {
     let alloc = next.alloc;
     if !state.is_admitted(alloc, filter)? {
         return answer(alloc, state, answers);
     }
-    let picks = state.picks(alloc)?;
+    let picks = state.picks_to_try(alloc, context, filter)?;
     let moved = try_picks(context, state, &picks, next)?;
     if moved {
         return Ok(());
@@ -97,9 +98,10 @@ fn try_layer<A: Allocator + Copy, S: SearchState<A>>(
 ) -> Result<bool, AllocError>
     ensures { IfOk result (λ complete. (a : Query) (depth : ℕ) (tried : List (List ℕ)) →
         S.filters filter.now a → next.old.states.items ≡ [] → AreAt S.journal (S.is_of context.now) a depth states.now →
-        HaveTried a depth (tried ++ map S.journal states.now) tried (answer_entries S.kept_seen answers.old.entries) →
-        TriesLayer S.journal (S.is_of context.now) a depth tried states.now next.new.states.items
-        (answer_entries S.kept_seen answers.new.entries) room complete) }
+        HaveTried (S.leaves_out filter.now) a depth (tried ++ map S.journal states.now) tried
+        (answer_entries S.kept_seen answers.old.entries) →
+        TriesLayer S.journal (S.is_of context.now) (S.leaves_out filter.now) a depth tried states.now
+        next.new.states.items (answer_entries S.kept_seen answers.new.entries) room complete) }
 {
     for state in states {
         if next.states.len() >= room {
@@ -121,18 +123,21 @@ pub struct Exploration<A: Allocator, M: Eq + Hash> {
     pub is_complete: bool,
 }
 
-/// Tries all states from the first on, until so many were met. A run that is not admitted ends there. An error is
-/// refused memory.
+/// Tries all states from the first on, until so many were met. A run that is not admitted ends there. None where picks
+/// are left out and a journal may have no room for a pick more: the search that leaves out none answers then. An error
+/// is refused memory.
 pub fn explore<A: Allocator + Copy, S: SearchState<A>>(
     alloc: A,
     context: &S::Context,
     filter: &S::Filter,
     first: S,
     max_states: usize,
-) -> Result<Exploration<A, S::Observation>, AllocError>
-    ensures { IfOk result (λ e. (a : Query) →
+) -> Result<Option<Exploration<A, S::Observation>>, AllocError>
+    ensures some { IfOk result (λ o. IfSome o (λ e. (a : Query) →
         S.is_of context.now first a → S.filters filter.now a → S.journal first ≡ moves a.program a.before →
-        Explores a (answer_entries S.kept_seen e.answers.entries) max_states e.states e.is_complete) }
+        Explores (S.leaves_out filter.now) a (answer_entries S.kept_seen e.answers.entries) max_states
+        e.states e.is_complete)) }
+    ensures none { IfOk result (λ o. IfNone o (S.leaves_out filter.now ≡ true)) }
 {
     let mut layer = Layer::new(alloc);
     layer.add(first)?;
@@ -140,11 +145,14 @@ pub fn explore<A: Allocator + Copy, S: SearchState<A>>(
     let mut states = layer.states.len();
     for _ in 0..LAYERS {
         if layer.states.is_empty() {
-            return Ok(Exploration {
+            return Ok(Some(Exploration {
                 answers,
                 states,
                 is_complete: true,
-            });
+            }));
+        }
+        if !layer.has_room(filter) {
+            return Ok(None);
         }
         let mut next = Layer::new(alloc);
         let room = max_states.saturating_sub(states);
@@ -158,18 +166,18 @@ pub fn explore<A: Allocator + Copy, S: SearchState<A>>(
         )?;
         let met = states.saturating_add(next.states.len());
         if !is_complete {
-            return Ok(Exploration {
+            return Ok(Some(Exploration {
                 answers,
                 states: met,
                 is_complete,
-            });
+            }));
         }
         layer = next;
         states = met;
     }
-    Ok(Exploration {
+    Ok(Some(Exploration {
         answers,
         states,
         is_complete: false,
-    })
+    }))
 }

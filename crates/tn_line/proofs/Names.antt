@@ -10,7 +10,7 @@ use Rattle.clap.specs.Adds.{AddsConflicts}
 use Rattle.clap.specs.Facts.{args_of, groups_of, subcommands_of}
 use Rattle.clap.specs.Built.{AddsArg, AddsGroup, AddsSubcommand, subcommand_names}
 use Rattle.clap.specs.Simple.{Shape, shape_of}
-use Rattle.tn_line.specs.Line.{EXPECTATION, IsCommand, IsWithFormats, IsWithExpectation, ExcludesPicks, PICKS, WantsBy}
+use Rattle.tn_line.specs.Line.{EXPECTATION, IsCommand, IsWithFormats, IsWithExpectation, ExcludesPicks, Excludes, PICKS, WantsBy}
 
 pub one_more : (name : List ℕ) (arguments : List (List ℕ)) (word : List ℕ) (old new : Command) (a : Arg)
     → IsCommand name arguments old → a.id.now ≡ word → AddsArg old a new → IsCommand name (arguments ++ word ∷ []) new
@@ -50,6 +50,12 @@ same_name word old new is excludes = ap (λ (a : Arg). a.id.now) excludes.same �
 -- some references more, of these texts
 pub excluded : (old new : Arg) (ids : List (Bor (List ℕ))) → map (λ w. w.now) ids ≡ PICKS → AddsConflicts old new ids → ExcludesPicks old new
 excluded old new ids are added = record {
+  same = added.0;
+  excludes = ap (map (λ w. w.now)) added.1 ∙ map-append (λ w. w.now) old.conflicts.items ids ∙ ap (λ l. map (λ w. w.now) old.conflicts.items ++ l) are;
+}
+
+pub excluded_of : (names : List (List ℕ)) (old new : Arg) (ids : List (Bor (List ℕ))) → map (λ w. w.now) ids ≡ names → AddsConflicts old new ids → Excludes names old new
+excluded_of names old new ids are added = record {
   same = added.0;
   excludes = ap (map (λ w. w.now)) added.1 ∙ map-append (λ w. w.now) old.conflicts.items ids ∙ ap (λ l. map (λ w. w.now) old.conflicts.items ++ l) are;
 }

@@ -69,6 +69,11 @@ pub record ExcludesPicks (old new : Arg) : Type 0 where
   pub same : new ≡ record old { conflicts = new.conflicts }
   pub excludes : map (λ w. w.now) new.conflicts.items ≡ map (λ w. w.now) old.conflicts.items ++ PICKS
 
+-- the argument is the same, but that it can't be given with these
+pub record Excludes (names : List (List ℕ)) (old new : Arg) : Type 0 where
+  pub same : new ≡ record old { conflicts = new.conflicts }
+  pub excludes : map (λ w. w.now) new.conflicts.items ≡ map (λ w. w.now) old.conflicts.items ++ names
+
 -- the arguments of each command that runs a script by picks
 abbrev pub BY_PICKS : List (List ℕ)
 BY_PICKS = codes "script" ∷ codes "picks" ∷ codes "picks-file" ∷ codes "moves" ∷ codes "moves-file" ∷ []
@@ -86,9 +91,9 @@ pub record IsWithFormats (old new : Command) : Type 0 where
   pub takes_formats : (name : List ℕ) (arguments : List (List ℕ)) → IsCommand name arguments old → IsCommand name (arguments ++ FORMATS) new
   pub wants_picks_so : (g : ArgGroup) → WantsBy g old → WantsBy g new
 
--- the arguments that say what the output must be, whether each command must be done, and how long the output may be
+-- the arguments that say what the output must be, whether each command must be done, how long the output may be, and which file it goes to
 abbrev pub EXPECTATION : List (List ℕ)
-EXPECTATION = codes "expect" ∷ codes "expect-line" ∷ codes "reject-line" ∷ codes "strict" ∷ codes "max-output" ∷ []
+EXPECTATION = codes "expect" ∷ codes "expect-line" ∷ codes "reject-line" ∷ codes "strict" ∷ codes "max-output" ∷ codes "output" ∷ []
 
 -- the command has these arguments after its own, and wants its picks as it did
 pub record IsWithExpectation (old new : Command) : Type 0 where
@@ -107,7 +112,13 @@ REPLAY = codes "script" ∷ codes "picks" ∷ codes "picks-file" ∷ codes "move
 abbrev pub EXPLAIN : List (List ℕ)
 EXPLAIN =
     codes "script" ∷ codes "picks" ∷ codes "picks-file" ∷ codes "moves" ∷ codes "moves-file" ∷ codes "round" ∷ codes "limit" ∷ codes "control"
-    ∷ codes "session" ∷ codes "move" ∷ codes "node" ∷ codes "json" ∷ EXPECTATION
+    ∷ codes "session" ∷ codes "move" ∷ codes "node" ∷ codes "message" ∷ codes "why-not" ∷ codes "json" ∷ EXPECTATION
+
+-- the arguments of `state`
+abbrev pub STATE : List (List ℕ)
+STATE =
+    codes "script" ∷ codes "picks" ∷ codes "picks-file" ∷ codes "moves" ∷ codes "moves-file" ∷ codes "round" ∷ codes "limit" ∷ codes "control"
+    ∷ codes "at" ∷ codes "session" ∷ codes "json" ∷ EXPECTATION
 
 -- the arguments of `draw`
 abbrev pub DRAW : List (List ℕ)
@@ -138,7 +149,7 @@ SCHEDULES = codes "script" ∷ codes "after" ∷ codes "control" ∷ codes "orde
 -- the arguments of `explore`
 abbrev pub EXPLORE_ARGUMENTS : List (List ℕ)
 EXPLORE_ARGUMENTS =
-    SCHEDULES ++ codes "shows" ∷ codes "always" ∷ codes "never" ∷ codes "sometimes" ∷ codes "random" ∷ codes "seed" ∷ codes "max-states" ∷ codes "max-output" ∷ []
+    SCHEDULES ++ codes "shows" ∷ codes "always" ∷ codes "never" ∷ codes "sometimes" ∷ codes "random" ∷ codes "seed" ∷ codes "max-states" ∷ codes "max-output" ∷ codes "output" ∷ []
 
 -- which trace, with which schedules it is compared, and whether the answer is JSON
 abbrev pub TRACES : List (List ℕ)
@@ -146,8 +157,8 @@ TRACES = codes "script" ∷ codes "trace" ∷ codes "prefix" ∷ codes "after" �
 
 -- the arguments of `compare`
 abbrev pub COMPARE_ARGUMENTS : List (List ℕ)
-COMPARE_ARGUMENTS = TRACES ++ codes "order" ∷ codes "session" ∷ codes "max-states" ∷ codes "max-output" ∷ []
+COMPARE_ARGUMENTS = TRACES ++ codes "order" ∷ codes "session" ∷ codes "max-states" ∷ codes "max-output" ∷ codes "output" ∷ []
 
 -- the commands of the program
 abbrev pub COMMAND_NAMES : List (List ℕ)
-COMMAND_NAMES = codes "run" ∷ codes "replay" ∷ codes "round" ∷ codes "workers" ∷ codes "explain" ∷ codes "draw" ∷ codes "spec" ∷ codes "fun" ∷ codes "explore" ∷ codes "compare" ∷ codes "serve" ∷ []
+COMMAND_NAMES = codes "run" ∷ codes "replay" ∷ codes "round" ∷ codes "workers" ∷ codes "explain" ∷ codes "state" ∷ codes "draw" ∷ codes "spec" ∷ codes "fun" ∷ codes "explore" ∷ codes "compare" ∷ codes "serve" ∷ []

@@ -1,7 +1,7 @@
 // The arguments of the commands.
-ghost use Rattle.std.specs.Prelude.{◌≡◌, codes, true, IfOk};
+ghost use Rattle.std.specs.Prelude.{◌≡◌, ◌∷◌, [], codes, true, IfOk};
 ghost use Rattle.tn_line.specs.Line.{IsOption, IsOptions, IsFlag, IsWord, IsElse, IsFromTo, IsOneOf, ExcludesPicks};
-ghost use Rattle.tn_line.specs.Line.{PICKS, PICKS_OR_ROUND};
+ghost use Rattle.tn_line.specs.Line.{Excludes, PICKS, PICKS_OR_ROUND};
 
 use clap::{Arg, ArgAction, ArgGroup, value_parser};
 use std::alloc::{AllocError, Global};
@@ -209,6 +209,18 @@ pub(crate) fn max_output<'a>(alloc: Global) -> Arg<'a>
         .action(ArgAction::Set)
 }
 
+/// `--output FILE`, `-o FILE`.
+pub(crate) fn output<'a>(alloc: Global) -> Arg<'a>
+    ensures { IsOption (codes "output") result }
+{
+    Arg::new(alloc, "output")
+        .long("output")
+        .short('o')
+        .value_name("FILE")
+        .help("The file that the output goes to, whole or not at all; standard output where it is absent")
+        .action(ArgAction::Set)
+}
+
 /// `--session NAME`. NAME may begin with a hyphen, and may be in quotes as atoms are in scripts.
 pub(crate) fn session<'a>(alloc: Global) -> Arg<'a>
     ensures { IsOption (codes "session") result }
@@ -243,6 +255,43 @@ pub(crate) fn node<'a>(alloc: Global) -> Arg<'a>
         .long("node")
         .help("Explains the moves alone that a running node does otherwise")
         .action(ArgAction::SetTrue)
+}
+
+/// The argument, which can't be given with another, with `--node` or with `--move`.
+fn without_moves<'a>(arg: Arg<'a>, other: &'a str) -> Result<Arg<'a>, AllocError>
+    ensures { IfOk result (Excludes (other.entry.now ∷ codes "node" ∷ codes "move" ∷ []) arg.entry) }
+{
+    arg.conflicts_with_all(&[other, "node", "move"])
+}
+
+/// `--message PATTERN`, which `explain` doesn't take beside `--why-not`, `--node` or `--move`. PATTERN may begin with a
+/// hyphen.
+pub(crate) fn message<'a>(alloc: Global) -> Result<Arg<'a>, AllocError>
+    ensures { IfOk result (IsOption (codes "message")) }
+{
+    let message = Arg::new(alloc, "message")
+        .long("message")
+        .value_name("PATTERN")
+        .help("Explains the moves alone at which a session sends a message that matches PATTERN")
+        .allow_hyphen_values(true)
+        .action(ArgAction::Set);
+    without_moves(message, "why-not")
+}
+
+/// `--why-not PATTERN`, which `explain` doesn't take beside `--message`, `--node` or `--move`. PATTERN may begin with a
+/// hyphen.
+pub(crate) fn why_not<'a>(alloc: Global) -> Result<Arg<'a>, AllocError>
+    ensures { IfOk result (IsOption (codes "why-not")) }
+{
+    let why_not = Arg::new(alloc, "why-not")
+        .long("why-not")
+        .value_name("PATTERN")
+        .help(
+            "Explains the moves alone whose message would match PATTERN, where a session sends none",
+        )
+        .allow_hyphen_values(true)
+        .action(ArgAction::Set);
+    without_moves(why_not, "message")
 }
 
 /// `--text`.

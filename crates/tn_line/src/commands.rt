@@ -7,14 +7,16 @@ ghost use Rattle.tn_line.specs.Line.{RUN, REPLAY, EXPLAIN, DRAW, ROUND, WORKERS,
 
 use crate::arguments::{
     caller, control, event, expect, expect_line, expect_session, in_rounds, json, json_alone,
-    limit, list, max_output, move_number, moves, moves_file, node, of_fun, one_of_picks,
+    limit, list, max_output, message, move_number, moves, moves_file, node, of_fun, one_of_picks,
+    output,
     own_process, picks, picks_file, picks_or_round, quiet, reject_line, script, session, spec_file,
-    specification, spread, strict, summary, text, turns, without_picks, worker_count,
+    specification, spread, strict, summary, text, turns, why_not, without_picks, worker_count,
 };
 use crate::compare_command::compare;
 use crate::explore_command::explore;
 use crate::fun_command::fun;
 use crate::serve_command::serve;
+use crate::state_command::state;
 use clap::{ArgGroup, Command};
 use std::alloc::{AllocError, Global};
 
@@ -71,9 +73,12 @@ fn with_formats<'a>(alloc: Global, command: Command<'a>) -> Result<Command<'a>, 
         .arg(expect_session(alloc)?)
 }
 
-/// The command with `[--expect FILE] [--expect-line TEXT] [--reject-line TEXT] [--strict] [--max-output BYTES]` more,
-/// which say what its output must be, and its commands.
-fn with_expectation<'a>(alloc: Global, command: Command<'a>) -> Result<Command<'a>, AllocError>
+/// The command with `[--expect FILE] [--expect-line TEXT] [--reject-line TEXT] [--strict] [--max-output BYTES]
+/// [--output FILE]` more, which say what its output must be, and its commands, and which file the output goes to.
+pub(crate) fn with_expectation<'a>(
+    alloc: Global,
+    command: Command<'a>,
+) -> Result<Command<'a>, AllocError>
     ensures { IfOk result (IsWithExpectation command.entry) }
 {
     command
@@ -81,7 +86,8 @@ fn with_expectation<'a>(alloc: Global, command: Command<'a>) -> Result<Command<'
         .arg(expect_line(alloc))?
         .arg(reject_line(alloc))?
         .arg(strict(alloc))?
-        .arg(max_output(alloc))
+        .arg(max_output(alloc))?
+        .arg(output(alloc))
 }
 
 /// The subcommand `replay [SCRIPT] [--quiet]` with picks or moves, in a format, and with what its output must be.
@@ -97,7 +103,7 @@ fn replay<'a>(alloc: Global) -> Result<Command<'a>, AllocError>
 }
 
 /// A command that runs the script by picks or moves, or by rounds with `--round [--limit N] [--control first]`.
-fn by_picks_or_rounds<'a>(
+pub(crate) fn by_picks_or_rounds<'a>(
     alloc: Global,
     name: &'a str,
     about: &'a str,
@@ -114,8 +120,8 @@ fn by_picks_or_rounds<'a>(
         .arg(control)
 }
 
-/// The subcommand `explain [SCRIPT] [--session NAME] [--move N] [--node] [--json]` with picks, moves or
-/// `--round [--limit N] [--control first]`, and with what its output must be.
+/// The subcommand `explain [SCRIPT] [--session NAME] [--move N] [--node] [--message PATTERN] [--why-not PATTERN]
+/// [--json]` with picks, moves or `--round [--limit N] [--control first]`, and with what its output must be.
 fn explain<'a>(alloc: Global) -> Result<Command<'a>, AllocError>
     ensures arguments { IfOk result (IsCommand (codes "explain") EXPLAIN) }
     ensures picks { IfOk result (WantsOneOf PICKS_OR_ROUND) }
@@ -126,6 +132,8 @@ fn explain<'a>(alloc: Global) -> Result<Command<'a>, AllocError>
         .arg(session(alloc))?
         .arg(move_number(alloc))?
         .arg(node(alloc))?
+        .arg(message(alloc)?)?
+        .arg(why_not(alloc)?)?
         .arg(json(alloc))?;
     with_expectation(alloc, command)
 }
@@ -238,6 +246,7 @@ pub fn command<'a>(alloc: Global) -> Result<Command<'a>, AllocError>
     let command = with_subcommand(command, round(alloc))?;
     let command = with_subcommand(command, workers(alloc))?;
     let command = with_subcommand(command, explain(alloc))?;
+    let command = with_subcommand(command, state(alloc))?;
     let command = with_subcommand(command, draw(alloc))?;
     let command = with_subcommand(command, spec(alloc))?;
     let command = with_subcommand(command, fun(alloc))?;

@@ -5,6 +5,7 @@ use Rattle.std.specs.Coded.{Coded, code_by, coded_ℕ, coded_list, coded×}
 use Rattle.def_script.specs.Program.{Function, Program}
 use Rattle.def_node.specs.Event.{Event}
 use Rattle.def_node.specs.Node as node
+use Rattle.def_node.specs.Process.{Process}
 use Rattle.tn_flags.specs.Views.{event_of}
 use Rattle.tn_process.specs.Functions.{functions_in}
 use Rattle.tn_node.specs.Codes.{function_code, state_code}
@@ -63,3 +64,11 @@ node_seen c = record {
 -- the state of a node; none where it is spent
 abbrev pub state_in : Option NodeValue → Option node.NodeState
 state_in n = option_map (λ v. v.state) n
+
+-- the processes of a node by their places; none where it is spent
+abbrev pub slots_in : Option NodeValue → Option (List (Option Process))
+slots_in n = option_map (λ v. v.state.world.slots) n
+
+-- how many commands it took; none where it is spent
+abbrev pub taken_in : Option NodeValue → Option ℕ
+taken_in n = option_map (λ v. v.state.taken) n

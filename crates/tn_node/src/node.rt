@@ -5,7 +5,7 @@ use crate::world::World;
 use std::alloc::{AllocError, Allocator};
 use std::hash::{FoldHasher, Hasher};
 use std::marker::Model;
-use tn_process::{Functions, StatePart};
+use tn_process::{Functions, Process, StatePart};
 use tn_program::Program;
 
 /// The processes, and how many commands of the control list were taken.
@@ -227,5 +227,32 @@ impl<A: Allocator + Copy> Node<A> {
             return 0;
         }
         self.state.fingerprint()
+    }
+}
+
+impl<A: Allocator + Copy> Node<A> {
+    ghost use Rattle.std.specs.Prelude.{◌≡◌, map};
+    ghost use Rattle.std.specs.Option.{option_map};
+    ghost use Rattle.tn_node.specs.Nodes.{slots_in, taken_in};
+    ghost use Rattle.tn_node.specs.Worlds.{slot_of};
+
+    /// The processes that were started, from pid 100 on, with None where one has exited. None of a node that is spent.
+    pub fn processes(&self) -> Option<&[Option<Process<A>>]>
+        ensures { option_map (λ ss. map slot_of ss.now) result ≡ slots_in self.now }
+    {
+        if self.is_spent {
+            return None;
+        }
+        Some(self.state.world.slots.as_slice())
+    }
+
+    /// How many commands of the control list were taken. None of a node that is spent.
+    pub fn commands_taken(&self) -> Option<usize>
+        ensures { result ≡ taken_in self.now }
+    {
+        if self.is_spent {
+            return None;
+        }
+        Some(self.state.taken)
     }
 }

@@ -35,6 +35,7 @@ notice_seen (notices.TestText text f) = texts.of_test_text (test_text_seen text)
 notice_seen (notices.NoSession name) = texts.no_session name.now
 notice_seen (notices.NoMove n) = texts.no_move n
 notice_seen notices.NoNodeMove = texts.no_node_move
+notice_seen notices.NoChosenMove = texts.no_chosen_move
 notice_seen notices.NoForms = texts.no_forms
 notice_seen (notices.PickOfNobody n pick) = texts.pick_of_nobody n pick
 notice_seen (notices.NodeMoves n m command) = texts.node_moves n m (command_seen_of command)

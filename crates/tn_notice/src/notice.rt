@@ -98,6 +98,8 @@ pub enum Notice<'a> {
     },
     /// A running node is known to do nothing otherwise.
     NoNodeMove,
+    /// No move of the run is chosen by the message that is asked for.
+    NoChosenMove,
     /// The script has no forms.
     NoForms,
     /// The pick with this number, from 1, is neither 0 nor a pid that a process may have.
@@ -156,6 +158,7 @@ impl Display for Notice<'_> {
             Notice::NoNodeMove => {
                 f.write_str("note: a running node is known to do nothing otherwise there")
             }
+            Notice::NoChosenMove => f.write_str("error: the pattern selects no move of the run"),
             Notice::NoForms => f.write_str("note: the script has no forms"),
             Notice::PickOfNobody { number, pick } => write!(
                 f,

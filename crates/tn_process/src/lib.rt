@@ -9,7 +9,8 @@
 //! leaves frames down to the newest that a catch step called; whatever concerns another process comes out
 //! as an act, for the node to carry out; and what is known of the next step before it is made is what
 //! def_outlook says of it. A `StatePart` once more stands for the same, and its values and messages have
-//! one owner more; `same` says whether two stand for the same; nothing is promised of a fingerprint.
+//! one owner more; `same` says whether two stand for the same; nothing is promised of a fingerprint. Between two
+//! steps its frames, mailbox, links and pending signal are seen as they are.
 #![tactic(auto)]
 
 mod act;
@@ -26,10 +27,12 @@ mod share;
 mod state_part;
 mod value;
 mod values;
+mod view;
 
 pub use act::Act;
+pub use env::Binding;
 pub use function::function_mfa;
 pub use functions::Functions;
 pub use outlook::{OwnLink, RuntimeError};
-pub use process::Process;
+pub use process::{Frame, Process};
 pub use state_part::StatePart;

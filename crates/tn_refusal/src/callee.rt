@@ -303,8 +303,8 @@ fn arity_in<A: Allocator>(form: &Form<A>, callee: &Callee<'_, A>) -> Option<usiz
     }
 }
 
-/// Appends the numbers of parameters with which the forms declare it, with `or` between them; after an `Err` a part
-/// of it may be there.
+/// Appends the arities with which the forms declare it, with `or` between them; after an `Err` a part of it may be
+/// there.
 fn put_arities<A: Allocator>(
     forms: &[Form<A>],
     callee: &Callee<'_, A>,
@@ -313,7 +313,7 @@ fn put_arities<A: Allocator>(
     ensures { OnOk result (out.new.items ≡ out.old.items
         ++ arities_text (declared_arities (map form_of forms.now) (callee_seen callee.now))) }
 {
-    let mut between: &[u8] = b" is declared with ";
+    let mut between: &[u8] = b" is declared with the arity ";
     for form in forms {
         match arity_in(form, callee) {
             Some(arity) => {
@@ -323,7 +323,7 @@ fn put_arities<A: Allocator>(
             None => {}
         }
     }
-    out.extend_from_slice(b" arguments")
+    out.extend_from_slice(b" alone")
 }
 
 /// Appends a function that is named, and why that breaks the rule; after an `Err` a part of it may be there.

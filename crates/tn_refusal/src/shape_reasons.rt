@@ -213,10 +213,16 @@ fn function_reason<'a, A: Allocator>(fields: &'a [Term<A>]) -> Option<ShapelessR
     ))
 }
 
+/// That five elements are those of a command.
+const COMMAND_AS_FORM: &[u8] = b"{process,M,F,Args} has 4 elements, and the command {process,S,Procs,How,Flags} stands in {control,[Command,..]}, found ";
+
 /// Why it isn't `{process,M,F,Args}`.
 fn process_reason<'a, A: Allocator>(fields: &'a [Term<A>]) -> Option<PartReason<'a, A>>
     ensures { part_reasons_seen result ≡ process_shape_reason (map tree_of fields.now) }
 {
+    if fields.len() == 5 {
+        return Some(PartReason::TooMany(COMMAND_AS_FORM, 5));
+    }
     if fields.len() != 4 {
         return Some(PartReason::OtherCount(b"{process,M,F,Args}", 4, fields.len()));
     }

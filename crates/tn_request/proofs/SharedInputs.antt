@@ -13,7 +13,7 @@ use Rattle.tn_request.specs.declared.request.TextSource.{TextSource}
 use Rattle.tn_request.specs.declared.request.TextSource.TheVariants.{Specification}
 use Rattle.tn_request.specs.declared.request.ExpectationArgs.{ExpectationArgs}
 use Rattle.tn_request.specs.declared.request.Request.{Request}
-use Rattle.tn_request.specs.declared.request.Request.TheVariants.{Run, Workers, Spec, Fun, Explore}
+use Rattle.tn_request.specs.declared.request.Request.TheVariants.{Run, Message, Workers, Spec, Fun, Explore}
 use Rattle.tn_request.specs.InputsAsked.{input_pair_seen, both_inputs, input_list, first_two, first_two_of_four, of_source, text_input, expected_inputs, shared_input}
 use Rattle.tn_request.specs.RequestParts.{script_asked, text_source_asked, spec_text_source, trace_source, IsRequestExpectation, IsAnyOutput}
 
@@ -97,6 +97,8 @@ pub texts_by_parts : (r : Request) (e : ExpectationArgs) → IsRequestExpectatio
     → first_two (input_list (of_source (script_asked r) the_script) ++ input_list (text_input (text_source_asked r)) ++ expected_inputs e) ≡ shared_input r
 texts_by_parts (Run run) e is =
     ap (λ x. first_two (input_list (of_source (script_asked (Run run)) the_script) ++ input_list (text_input (text_source_asked (Run run))) ++ expected_inputs x)) is
+texts_by_parts (Message m) e is =
+    ap (λ x. first_two (input_list (of_source (script_asked (Message m)) the_script) ++ input_list (text_input (text_source_asked (Message m))) ++ expected_inputs x)) is
 texts_by_parts (Workers workers) e is =
     let script = input_list (of_source (Some workers.script) the_script) in
     ap (λ x. first_two (x ++ expected_inputs e)) (no_more script)

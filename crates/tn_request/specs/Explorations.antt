@@ -1,6 +1,6 @@
 -- The exploration that a request asks for, and the exit status of a request (own).
 -- Depends on what is asked of all schedules, and on the exit status of a command.
-use Rattle.std.specs.Prelude.{◌≡◌, ◌⊎◌, ◌++◌, ℕ, List, codes}
+use Rattle.std.specs.Prelude.{◌≡◌, ◌⊎◌, ◌++◌, ℕ, false, List, codes}
 use Rattle.std.specs.declared.alloc.Global.{Global}
 use Rattle.def_explore.specs.Words as words
 use Rattle.tn_answers.specs.declared.text.SearchQuestion.{SearchQuestion}
@@ -14,7 +14,7 @@ use Rattle.tn_trace.specs.Slots.{EachPair}
 use Rattle.tn_request.specs.declared.exploration.PatternsFault.{PatternsFault}
 use Rattle.tn_request.specs.declared.request.ExploreArgs.{ExploreArgs}
 use Rattle.tn_request.specs.declared.request.Request.{Request}
-use Rattle.tn_request.specs.declared.request.Request.TheVariants.{Run, Workers, Spec, Fun, Explore}
+use Rattle.tn_request.specs.declared.request.Request.TheVariants.{Run, Message, Workers, Spec, Fun, Explore}
 
 -- the schedules begin with the moves of the text, this is asked, and the rest is as the words say
 pub record IsExplorationAsked (args : ExploreArgs) (asked : SearchQuestion Global) (q : ExploreRequest) : Type 0 where
@@ -23,6 +23,7 @@ pub record IsExplorationAsked (args : ExploreArgs) (asked : SearchQuestion Globa
   pub session : q.session ≡ args.session
   pub question : q.question ≡ asked
   pub max_states : q.max_states ≡ args.max_states
+  pub whole : q.reduces ≡ false
   pub random : q.random ≡ args.random
   pub form : q.form ≡ args.form
 
@@ -53,6 +54,7 @@ IsPatternsFault args e =
 -- an exploration may have one more status than other requests have
 abbrev pub IsRequestStatus : Request → ℕ → Type 0
 IsRequestStatus (Run run) n = IsStatus n
+IsRequestStatus (Message m) n = IsStatus n
 IsRequestStatus (Workers workers) n = IsStatus n
 IsRequestStatus (Spec trial) n = IsStatus n
 IsRequestStatus (Fun fun) n = IsStatus n

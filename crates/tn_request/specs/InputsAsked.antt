@@ -8,7 +8,7 @@ use Rattle.tn_command.specs.declared.source.Source.{Source}
 use Rattle.tn_command.specs.declared.source.Source.TheVariants.{Input, File}
 use Rattle.tn_request.specs.declared.request.ExpectationArgs.{ExpectationArgs}
 use Rattle.tn_request.specs.declared.request.Request.{Request}
-use Rattle.tn_request.specs.declared.request.Request.TheVariants.{Run, Workers, Spec, Fun, Explore}
+use Rattle.tn_request.specs.declared.request.Request.TheVariants.{Run, Message, Workers, Spec, Fun, Explore}
 use Rattle.tn_request.specs.declared.request.TextSource.{TextSource}
 use Rattle.tn_request.specs.declared.request.TextSource.TheVariants.{Picks, Moves, Specification, Trace}
 use Rattle.tn_request.specs.RequestParts.{run_expectation, script_asked, text_source_asked}
@@ -39,6 +39,7 @@ expected_inputs e = input_list (of_source e.output the_output) ++ input_list (of
 -- all that a request reads from standard input; of a trial, a fun or an exploration nothing is expected
 abbrev pub inputs_asked : Request → List InputText
 inputs_asked (Run run) = input_list (of_source (script_asked (Run run)) the_script) ++ input_list (text_input (text_source_asked (Run run))) ++ expected_inputs (run_expectation run)
+inputs_asked (Message m) = input_list (of_source (Some m.script) the_script) ++ input_list (text_input (text_source_asked (Message m))) ++ expected_inputs m.expectation
 inputs_asked (Workers workers) = input_list (of_source (Some workers.script) the_script) ++ expected_inputs workers.expectation
 inputs_asked (Spec trial) = []
 inputs_asked (Fun fun) = []

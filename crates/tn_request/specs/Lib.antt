@@ -8,3 +8,4 @@ pub mod Explorations
 pub mod Comparisons
 pub mod ExpectationsAsked
 pub mod InputsAsked
+pub mod MessagesAsked

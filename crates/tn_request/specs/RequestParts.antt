@@ -10,29 +10,32 @@ use Rattle.tn_request.specs.declared.request.PicksSource.TheVariants as picks
 use Rattle.tn_request.specs.declared.request.RunSource.{RunSource}
 use Rattle.tn_request.specs.declared.request.RunSource.TheVariants.{ByPicks, ByRound}
 use Rattle.tn_request.specs.declared.request.RunRequest.{RunRequest}
-use Rattle.tn_request.specs.declared.request.RunRequest.TheVariants.{Replay, Explain, Draw, Round}
+use Rattle.tn_request.specs.declared.request.RunRequest.TheVariants.{Replay, Explain, State, Draw, Round}
 use Rattle.tn_request.specs.declared.request.Request.{Request}
-use Rattle.tn_request.specs.declared.request.Request.TheVariants.{Run, Workers, Spec, Fun, Explore}
+use Rattle.tn_request.specs.declared.request.Request.TheVariants.{Run, Message, Workers, Spec, Fun, Explore}
 use Rattle.tn_request.specs.declared.request.TextSource.{TextSource}
 use Rattle.tn_request.specs.declared.request.TextSource.TheVariants.{Picks, Moves, Specification, Trace}
 
 -- what the output of a run must be
 abbrev pub run_expectation : RunRequest → ExpectationArgs
 run_expectation (Replay script picks quiet e) = e
-run_expectation (Explain script run filter e) = e
+run_expectation (Explain script run filter message e) = e
+run_expectation (State script run question e) = e
 run_expectation (Draw script run format e) = e
 run_expectation (Round script limit control_first quiet e) = e
 
 -- where the script of a run is
 abbrev pub run_script : RunRequest → Source
 run_script (Replay script picks quiet e) = script
-run_script (Explain script run filter e) = script
+run_script (Explain script run filter message e) = script
+run_script (State script run question e) = script
 run_script (Draw script run format e) = script
 run_script (Round script limit control_first quiet e) = script
 
 -- where the script of a request is; a trial and a fun have none
 abbrev pub script_asked : Request → Option Source
 script_asked (Run run) = Some (run_script run)
+script_asked (Message m) = Some m.script
 script_asked (Workers workers) = Some workers.script
 script_asked (Spec trial) = None
 script_asked (Fun fun) = None
@@ -49,6 +52,7 @@ pub record IsAnyOutput (e : ExpectationArgs) : Type 0 where
 -- what the output of a request must be: anything, of a trial, a fun or an exploration
 abbrev pub IsRequestExpectation : Request → ExpectationArgs → Type 0
 IsRequestExpectation (Run run) e = e ≡ run_expectation run
+IsRequestExpectation (Message m) e = e ≡ m.expectation
 IsRequestExpectation (Workers workers) e = e ≡ workers.expectation
 IsRequestExpectation (Spec trial) e = IsAnyOutput e
 IsRequestExpectation (Fun fun) e = IsAnyOutput e
@@ -61,7 +65,7 @@ picks_source_asked (picks.In source) = Some (Picks source)
 picks_source_asked (picks.Moves words) = None
 picks_source_asked (picks.MovesIn source) = Some (Moves source)
 
--- that of a run that is explained or drawn
+-- that of a run that is explained or drawn, or has a state that is asked for
 abbrev pub run_source_asked : RunSource → Option TextSource
 run_source_asked (ByPicks source) = picks_source_asked source
 run_source_asked (ByRound limit control_first) = None
@@ -69,7 +73,8 @@ run_source_asked (ByRound limit control_first) = None
 -- that of any run by a schedule
 abbrev pub run_text_source : RunRequest → Option TextSource
 run_text_source (Replay script source quiet e) = picks_source_asked source
-run_text_source (Explain script run filter e) = run_source_asked run
+run_text_source (Explain script run filter message e) = run_source_asked run
+run_text_source (State script run question e) = run_source_asked run
 run_text_source (Draw script run format e) = run_source_asked run
 run_text_source (Round script limit control_first quiet e) = None
 
@@ -87,6 +92,7 @@ trace_source (Some path) = Some (Trace (File path))
 -- the text that is to be read beside the script
 abbrev pub text_source_asked : Request → Option TextSource
 text_source_asked (Run run) = run_text_source run
+text_source_asked (Message m) = run_source_asked m.run
 text_source_asked (Workers workers) = None
 text_source_asked (Spec trial) = spec_text_source trial.file trial.specification
 text_source_asked (Fun fun) = spec_text_source None fun.text

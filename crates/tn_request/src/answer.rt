@@ -9,10 +9,11 @@ ghost use Rattle.tn_request.specs.Explorations.{IsRequestStatus};
 ghost use Rattle.tn_request.specs.TaskFlaws.{flaw_asked};
 ghost use Rattle.tn_request.specs.Tasks.{job_asked};
 
-use crate::exploration::explore_words;
+use crate::exploration::{explore_words, refuse_pattern};
 use crate::fun_text::fun_text_of;
 use crate::job::{RequestOutcome, format_of, job_of};
-use crate::request::{Request, RunRequest};
+use crate::message::{choice_of, chosen_run, pattern_of};
+use crate::request::{MessageRequest, Request, RunRequest};
 use crate::trial::{spec_input_of, without_full_stop};
 use crate::workers::run_workers_request;
 use std::alloc::Allocator;
@@ -125,6 +126,26 @@ fn perform_request<R: Input + Files + Print + Eprint + AllocGlobal>(
     }
 }
 
+/// Explains the moves that are chosen by a message, where the words have a pattern of it, or else says why they have
+/// none.
+fn explain_chosen<R: Input + Files + Print + Eprint + AllocGlobal>(
+    rt: &R,
+    words: &MessageRequest<'_>,
+    read: &[u8],
+    form: OutputForm,
+    expectation: &Expectation<'_>,
+) -> ExitCode
+    ensures { IsStatus (exit_status result) }
+{
+    match pattern_of(rt.alloc(), &words.message) {
+        Ok(pattern) => {
+            let choice = choice_of(&words.message, &pattern);
+            perform_request(rt, &chosen_run(words, choice), read, form, expectation)
+        }
+        Err(refused) => refuse_pattern(rt, refused),
+    }
+}
+
 /// Does what is asked for, with the text that was read beside the script, and writes to standard output in a form. The
 /// output is compared with what is expected of it. Workers alone use the threads.
 pub fn answer_request<R: Input + Files + Print + Eprint + AllocGlobal, T: Threads + Wait + Sync>(
@@ -140,6 +161,7 @@ pub fn answer_request<R: Input + Files + Print + Eprint + AllocGlobal, T: Thread
 {
     match request {
         Request::Run(run) => perform_request(rt, run, read, form, expectation),
+        Request::Message(words) => explain_chosen(rt, words, read, form, expectation),
         Request::Workers(workers) => run_workers_request(rt, threads, workers, form, expectation),
         Request::Spec(trial) if trial.fun => test_fun(
             rt,

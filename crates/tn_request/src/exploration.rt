@@ -2,6 +2,7 @@
 ghost use Rattle.std.specs.Prelude.{IfErr, IfOk, map};
 ghost use Rattle.std.specs.Process.{exit_status};
 ghost use Rattle.tn_command.specs.Explorations.{IsExplorationStatus};
+ghost use Rattle.tn_command.specs.Status.{IsStatus};
 ghost use Rattle.tn_expectation.specs.Expectations.{words_of};
 ghost use Rattle.tn_exploration.specs.Questions.{AddsQuestions};
 ghost use Rattle.tn_message_pattern.specs.Questions.{demand_seen, pattern_question_seen};
@@ -32,6 +33,7 @@ pub fn exploration_of<'a, 'w: 'a>(
         session: words.session,
         question,
         max_states: words.max_states as usize,
+        reduces: false,
         random: words.random,
         form: words.form,
     }
@@ -103,8 +105,11 @@ pub fn patterns_of<'a>(
 }
 
 /// Says why a value is no pattern.
-fn refuse_pattern<R: Eprint + AllocGlobal>(rt: &R, refused: PatternsFault<'_>) -> ExitCode
-    ensures { IsExplorationStatus (exit_status result) }
+pub(crate) fn refuse_pattern<R: Eprint + AllocGlobal>(
+    rt: &R,
+    refused: PatternsFault<'_>,
+) -> ExitCode
+    ensures { IsStatus (exit_status result) }
 {
     match refused.fault {
         QuestionsFault::NoPattern { text, reason } => refuse_value(

@@ -3,28 +3,32 @@ ghost use Rattle.std.specs.Prelude.{◌≡◌, ◌||◌, not, IfErr, IfOk};
 ghost use Rattle.tn_moves.specs.Schedules.{IsSpelledBy, schedule_seen};
 ghost use Rattle.tn_program.specs.Views.{program_of};
 ghost use Rattle.tn_run.specs.Jobs.{IsAnswerWithin, IsOfNoEnd, IsProgramAnswer};
-ghost use Rattle.tn_request.specs.Tasks.{account_of_request, drawing_of_request, listing_of_replay};
-ghost use Rattle.tn_request.specs.Tasks.{format_asked, listing_task, task_asked, task_job, task_seen};
+ghost use Rattle.tn_request.specs.Tasks.{account_of_request, drawing_of_request, listing_of_replay, state_of_request};
+ghost use Rattle.tn_request.specs.Tasks.{account_task, format_asked, listing_task, task_asked, task_job, task_seen};
+ghost use Rattle.tn_explain.specs.Filters.{account_question_seen};
 
 use crate::request::RunRequest;
 use crate::schedule::schedule_of;
 use std::alloc::{Allocator, Global};
 use tn_command::{Command, NamedText, run_fault};
-use tn_explain::{ExplainOutcome, ExplainRequest};
+use tn_explain::{ExplainOutcome, ExplainRequest, Filter};
 use tn_formats::Format;
 use tn_listing::PicksFault;
+use tn_message_choice::MessageChoice;
 use tn_moves::Schedule;
 use tn_notice::CommandFault;
 use tn_picture::{DrawOutcome, DrawRequest};
 use tn_program::Program;
 use tn_replay::{Replay, ReplayOutcome};
 use tn_run::{Denial, DirectJob, Job, Refusal, RunFault};
+use tn_state::{StateOutcome, StateRequest};
 
 /// The job that a request for a run by a schedule asks for.
 #[derive(Clone, Copy)]
 pub enum RequestJob<'a> {
     Replay(Replay<'a>),
     Explain(ExplainRequest<'a>),
+    State(StateRequest<'a>),
     Draw(DrawRequest<'a>),
 }
 
@@ -33,6 +37,7 @@ pub enum RequestJob<'a> {
 pub enum RequestOutcome {
     Replay(ReplayOutcome),
     Explain(ExplainOutcome),
+    State(StateOutcome),
     Draw(DrawOutcome),
 }
 
@@ -47,6 +52,22 @@ fn listing_job(schedule: Schedule<'_>, quiet: bool, strict: bool) -> RequestJob<
     })
 }
 
+/// The explanation of a run, as far as is asked.
+fn explain_job<'a>(
+    schedule: Schedule<'a>,
+    filter: Filter<'a>,
+    message: Option<MessageChoice<'a>>,
+) -> RequestJob<'a>
+    ensures { task_seen result ≡
+        account_task (schedule_seen schedule.entry) (account_question_seen filter.entry message.entry) }
+{
+    RequestJob::Explain(ExplainRequest {
+        schedule,
+        filter,
+        message,
+    })
+}
+
 /// The job of a request, with the text that was read of its picks or its moves.
 pub fn job_of<'a>(request: &RunRequest<'a>, read: &'a [u8]) -> RequestJob<'a>
     ensures { task_seen result ≡ task_asked request.now read.now }
@@ -58,8 +79,13 @@ pub fn job_of<'a>(request: &RunRequest<'a>, read: &'a [u8]) -> RequestJob<'a>
             expectation,
             ..
         } => listing_job(schedule, quiet, expectation.strict),
-        RunRequest::Explain { filter, .. } => {
-            RequestJob::Explain(ExplainRequest { schedule, filter })
+        RunRequest::Explain {
+            filter,
+            message,
+            ..
+        } => explain_job(schedule, filter, message),
+        RunRequest::State { question, .. } => {
+            RequestJob::State(StateRequest { schedule, question })
         }
         RunRequest::Draw { format, .. } => RequestJob::Draw(DrawRequest { schedule, format }),
         RunRequest::Round {
@@ -131,6 +157,22 @@ fn explain_answer<A: Allocator + Copy>(
     Ok((RequestOutcome::Explain(outcome), output))
 }
 
+/// What is written of a program whose state is asked for.
+fn state_answer<A: Allocator + Copy>(
+    alloc: A,
+    job: &StateRequest<'_>,
+    picks: &[u32],
+    program: &Program<A>,
+) -> Result<(RequestOutcome, Vec<u8, A>), RunFault>
+    requires { IsSpelledBy (schedule_seen job.now.schedule) picks.now }
+    ensures given { IfOk result (λ r. IsProgramAnswer (task_job (state_of_request job.now))
+        (program_of program.now) r.0 r.1.items) }
+    ensures fault { IfErr result (IsOfNoEnd (task_job (state_of_request job.now))) }
+{
+    let (outcome, output) = job.answer(alloc, picks, program)?;
+    Ok((RequestOutcome::State(outcome), output))
+}
+
 /// What is written of a program whose run is drawn.
 fn draw_answer<A: Allocator + Copy>(
     alloc: A,
@@ -163,6 +205,7 @@ impl<A: Allocator + Copy> Job<A> for RequestJob<'_> {
         match self {
             RequestJob::Replay(job) => job.schedule.picks_of_text(alloc),
             RequestJob::Explain(job) => job.schedule.picks_of_text(alloc),
+            RequestJob::State(job) => job.schedule.picks_of_text(alloc),
             RequestJob::Draw(job) => job.schedule.picks_of_text(alloc),
         }
     }
@@ -173,6 +216,7 @@ impl<A: Allocator + Copy> Job<A> for RequestJob<'_> {
             RequestJob::Explain(job) => {
                 RequestOutcome::Explain(job.refusal_outcome(alloc, refusal))
             }
+            RequestJob::State(job) => RequestOutcome::State(job.refusal_outcome(alloc, refusal)),
             RequestJob::Draw(job) => RequestOutcome::Draw(job.refusal_outcome(alloc, refusal)),
         }
     }
@@ -186,6 +230,7 @@ impl<A: Allocator + Copy> Job<A> for RequestJob<'_> {
                     ExplainOutcome::Account | ExplainOutcome::NoDifference
                 )
             }
+            RequestOutcome::State(outcome) => matches!(outcome, StateOutcome::State),
             RequestOutcome::Draw(outcome) => matches!(outcome, DrawOutcome::Drawn),
         }
     }
@@ -205,6 +250,7 @@ impl<A: Allocator + Copy> DirectJob<A> for RequestJob<'_> {
         match self {
             RequestJob::Replay(job) => replay_answer(alloc, job, picks, program),
             RequestJob::Explain(job) => explain_answer(alloc, job, picks, program),
+            RequestJob::State(job) => state_answer(alloc, job, picks, program),
             RequestJob::Draw(job) => draw_answer(alloc, job, picks, program),
         }
     }
@@ -249,6 +295,9 @@ impl Command for RequestJob<'_> {
             (RequestJob::Explain(job), RequestOutcome::Explain(outcome)) => {
                 job.tell_outcome(rt, outcome, script);
             }
+            (RequestJob::State(job), RequestOutcome::State(outcome)) => {
+                job.tell_outcome(rt, outcome, script);
+            }
             (RequestJob::Draw(job), RequestOutcome::Draw(outcome)) => {
                 job.tell_outcome(rt, outcome, script);
             }
@@ -267,6 +316,9 @@ impl Command for RequestJob<'_> {
                 job.is_flawed(alloc, outcome, script)
             }
             (RequestJob::Explain(job), RequestOutcome::Explain(outcome)) => {
+                job.is_flawed(alloc, outcome, script)
+            }
+            (RequestJob::State(job), RequestOutcome::State(outcome)) => {
                 job.is_flawed(alloc, outcome, script)
             }
             (RequestJob::Draw(job), RequestOutcome::Draw(outcome)) => {

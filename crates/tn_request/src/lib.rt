@@ -11,6 +11,7 @@ mod exploration;
 mod fun_text;
 mod inputs;
 mod job;
+mod message;
 mod output;
 mod request;
 mod schedule;
@@ -24,8 +25,8 @@ pub use fun_text::fun_text_of;
 pub use job::{RequestJob, RequestOutcome, format_of, job_of};
 pub use output::{ExpectedTexts, expectation_of, expected_texts};
 pub use request::{
-    ExpectationArgs, ExploreArgs, FunArgs, PicksSource, Request, RunRequest, RunSource,
-    SessionArgs, SpecTestArgs, TextSource, WorkersRequest,
+    ExpectationArgs, ExploreArgs, FunArgs, MessageArgs, MessageRequest, PicksSource, Request,
+    RunRequest, RunSource, SessionArgs, SpecTestArgs, TextSource, WorkersRequest,
 };
 pub use schedule::schedule_of;
 pub use trial::spec_input_of;

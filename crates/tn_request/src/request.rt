@@ -5,9 +5,11 @@ use tn_answers::AnswerForm;
 use tn_command::Source;
 use tn_explain::Filter;
 use tn_exploration::RandomRuns;
+use tn_message_choice::MessageChoice;
 use tn_picture::PictureFormat;
 use tn_search::ListingOrder;
 use tn_spec::Dialect;
+use tn_state::StateQuestion;
 
 /// Where the text of picks or of moves is.
 #[derive(Clone, Copy)]
@@ -22,7 +24,7 @@ pub enum PicksSource<'a> {
     MovesIn(Source<'a>),
 }
 
-/// Which run is explained or drawn.
+/// Which run is explained or drawn, or has a state that is asked for.
 #[derive(Clone, Copy)]
 pub enum RunSource<'a> {
     /// The run by picks.
@@ -100,6 +102,15 @@ pub struct ExploreArgs<'a> {
     pub form: AnswerForm,
 }
 
+/// The message by which moves are chosen, in the words of `explain`.
+#[derive(Clone, Copy)]
+pub struct MessageArgs<'a> {
+    /// The text of the pattern that it matches.
+    pub pattern: &'a str,
+    /// Whether the moves are asked for at which it isn't sent.
+    pub is_missing: bool,
+}
+
 /// What an output must be, in the words of the command line.
 #[derive(Clone, Copy)]
 pub struct ExpectationArgs<'a> {
@@ -140,6 +151,15 @@ pub enum RunRequest<'a> {
         script: Source<'a>,
         run: RunSource<'a>,
         filter: Filter<'a>,
+        /// The message by which its moves are chosen, where one is asked for.
+        message: Option<MessageChoice<'a>>,
+        expectation: ExpectationArgs<'a>,
+    },
+    /// The state of a run after a move.
+    State {
+        script: Source<'a>,
+        run: RunSource<'a>,
+        question: StateQuestion<'a>,
         expectation: ExpectationArgs<'a>,
     },
     /// A picture of a run.
@@ -161,6 +181,16 @@ pub enum RunRequest<'a> {
     },
 }
 
+/// An explanation of the moves of a run that are chosen by a message, in the words of `explain`.
+#[derive(Clone, Copy)]
+pub struct MessageRequest<'a> {
+    pub script: Source<'a>,
+    pub run: RunSource<'a>,
+    pub filter: Filter<'a>,
+    pub message: MessageArgs<'a>,
+    pub expectation: ExpectationArgs<'a>,
+}
+
 /// A run by so many workers, of so many turns each, that the command line asks for.
 #[derive(Clone, Copy)]
 pub struct WorkersRequest<'a> {
@@ -177,8 +207,10 @@ pub struct WorkersRequest<'a> {
 /// What the command line asks for.
 #[derive(Clone, Copy)]
 pub enum Request<'a> {
-    /// A run by a schedule: its output, an explanation or a picture of it.
+    /// A run by a schedule: its output, an explanation, a state or a picture of it.
     Run(RunRequest<'a>),
+    /// An explanation of the moves that are chosen by a message.
+    Message(MessageRequest<'a>),
     /// A run by workers.
     Workers(WorkersRequest<'a>),
     /// A trial of a match specification.
@@ -252,6 +284,7 @@ impl<'a> RunRequest<'a> {
         match *self {
             RunRequest::Replay { expectation, .. } => expectation,
             RunRequest::Explain { expectation, .. } => expectation,
+            RunRequest::State { expectation, .. } => expectation,
             RunRequest::Draw { expectation, .. } => expectation,
             RunRequest::Round { expectation, .. } => expectation,
         }
@@ -264,6 +297,7 @@ impl<'a> RunRequest<'a> {
         match *self {
             RunRequest::Replay { script, .. } => script,
             RunRequest::Explain { script, .. } => script,
+            RunRequest::State { script, .. } => script,
             RunRequest::Draw { script, .. } => script,
             RunRequest::Round { script, .. } => script,
         }
@@ -276,6 +310,7 @@ impl<'a> RunRequest<'a> {
         match *self {
             RunRequest::Replay { picks, .. } => picks.text_source(),
             RunRequest::Explain { run, .. } => run.text_source(),
+            RunRequest::State { run, .. } => run.text_source(),
             RunRequest::Draw { run, .. } => run.text_source(),
             RunRequest::Round { .. } => None,
         }
@@ -322,6 +357,7 @@ impl<'a> Request<'a> {
     {
         match *self {
             Request::Run(run) => run.expectation(),
+            Request::Message(message) => message.expectation,
             Request::Workers(workers) => workers.expectation,
             Request::Spec(_) | Request::Fun(_) | Request::Explore(_) => ANY_OUTPUT,
         }
@@ -333,6 +369,7 @@ impl<'a> Request<'a> {
     {
         match *self {
             Request::Run(run) => Some(run.script()),
+            Request::Message(message) => Some(message.script),
             Request::Workers(workers) => Some(workers.script),
             Request::Spec(_) | Request::Fun(_) => None,
             Request::Explore(exploration) => Some(exploration.script),
@@ -345,6 +382,7 @@ impl<'a> Request<'a> {
     {
         match *self {
             Request::Run(run) => run.text_source(),
+            Request::Message(message) => message.run.text_source(),
             Request::Workers(_) => None,
             Request::Spec(trial) => trial.text_source(),
             Request::Fun(fun) => fun.text_source(),

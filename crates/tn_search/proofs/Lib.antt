@@ -3,5 +3,7 @@ pub mod Sessions
 pub mod Places
 pub mod Probes
 pub mod Steps
+pub mod SilentMoves
+pub mod Reductions
 pub mod Gathers
 pub mod OnlyEntries

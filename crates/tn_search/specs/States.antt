@@ -1,6 +1,6 @@
 -- What a state of a search stands for, and what a search through all schedules answers.
 -- Depends on runs, and on the questions of a search.
-use Rattle.std.specs.Prelude.{◌≡◌, ℕ, Bool, true, false, List}
+use Rattle.std.specs.Prelude.{◌≡◌, ℕ, Bool, true, false, List, [], ◌∷◌}
 use Rattle.def_term.specs.Tree.{Tree}
 use Rattle.def_script.specs.Program.{Program}
 use Rattle.def_run.specs.Run.{JOURNAL, moves}
@@ -9,7 +9,7 @@ use Rattle.tn_program.specs.Views.{program_of}
 use Rattle.tn_program.specs.declared.parts.Program as code
 use Rattle.tn_trace.specs.Recorders.{HasRecorded}
 use Rattle.tn_trace.specs.Runs.{IsRun}
-use Rattle.tn_explore.specs.Query.{Query}
+use Rattle.tn_explore.specs.Query.{Query, AreFirstFor}
 use Rattle.tn_explore.specs.Searches.{Explores, answer_entries}
 use Rattle.tn_explore.specs.declared.search.Exploration.{Exploration}
 use Rattle.tn_messages.specs.MessageViews.{kept_seen, question_of}
@@ -34,6 +34,10 @@ pub record IsStateFor {A K F : Type 0} (Keeps : K → List Tree → Type 0) (b :
 abbrev pub IsFilterFor : {F : Type 0} → (F → KeptMessages → Bool) → F → Query → Type 0
 IsFilterFor Admits f a = (kept : KeptMessages) → a.admits kept ≡ Admits f kept
 
+-- for whatever is asked, where each run is followed, the pick alone is independent of all others
+abbrev pub IsFirstPick : {A K F : Type 0} → (K → List Tree → Type 0) → Bool → code.Program A → ProgramState A K F → ℕ → Type 0
+IsFirstPick Keeps b x s pick = (a : Query) → IsStateFor Keeps b x s a → ((kept : KeptMessages) → a.admits kept ≡ true) → AreFirstFor a (state_journal s) (pick ∷ [])
+
 -- what is asked of the runs of a program that begin with some picks, of the sessions at these places
 abbrev pub query_of : (KeptMessages → Bool) → Bool → Program → List ℕ → List ℕ → Query
 query_of admits b p before places = record { program = p; before = before; question = question_of b; sessions = names_at p places; admits = admits }
@@ -47,10 +51,14 @@ abbrev pub is_by_process : ListingOrder → Bool
 is_by_process Total = false
 is_by_process ByProcess = true
 
--- the search went through all schedules that begin with some picks, as long as they are followed, until so many states were met
-abbrev pub ExploresProgram : {A : Type 0} → (KeptMessages → Bool) → Bool → Program → List ℕ → List ℕ → ℕ → Exploration A (KeptListings A) → Type 0
-ExploresProgram admits b p before places max_states e = Explores (query_of admits b p before places) (answer_entries kept_seen e.answers.entries) max_states e.states e.is_complete
+-- the search went through all schedules that begin with some picks, as long as they are followed, until so many states were met; `left` says whether it left out picks
+abbrev pub ExploresProgram : {A : Type 0} → Bool → (KeptMessages → Bool) → Bool → Program → List ℕ → List ℕ → ℕ → Exploration A (KeptListings A) → Type 0
+ExploresProgram left admits b p before places max_states e = Explores left (query_of admits b p before places) (answer_entries kept_seen e.answers.entries) max_states e.states e.is_complete
 
 -- through those that the plan says
+abbrev pub ExploresPlanned : {A : Type 0} → Bool → (KeptMessages → Bool) → Bool → Program → SearchPlan → Exploration A (KeptListings A) → Type 0
+ExploresPlanned left admits b p plan = ExploresProgram left admits b p plan.before.now plan.places.now plan.max_states
+
+-- as the plan says
 abbrev pub ExploresPlan : {A : Type 0} → (KeptMessages → Bool) → Program → SearchPlan → Exploration A (KeptListings A) → Type 0
-ExploresPlan admits p plan = ExploresProgram admits (is_by_process plan.order) p plan.before.now plan.places.now plan.max_states
+ExploresPlan admits p plan = ExploresPlanned plan.reduces admits (is_by_process plan.order) p plan

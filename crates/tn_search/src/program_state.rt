@@ -2,6 +2,7 @@
 ghost use Rattle.std.specs.Prelude.{◌≡◌, IfOk};
 ghost use Rattle.tn_search.specs.Probes.{HasMovesAmong, Probes, TriesPick};
 
+use crate::reduction::{first_pick, pick_alone};
 use crate::search_sink::SearchSink;
 use crate::session_states::{add_slots, same_living, same_slots, share_kept};
 use std::alloc::{AllocError, Allocator};
@@ -97,6 +98,8 @@ impl<A: Allocator + Copy, K: SearchSink<A> + Drop, F: RunFilter<A>> SearchState<
 
     ghost filters = { IsFilterFor F.admits };
 
+    ghost leaves_out = { F.leaves_out };
+
     ghost kept_seen = { kept_seen };
 
     fn picks(&self, alloc: A) -> Result<Vec<u32, A>, AllocError> {
@@ -106,6 +109,37 @@ impl<A: Allocator + Copy, K: SearchSink<A> + Drop, F: RunFilter<A>> SearchState<
         }
         let pass = pass_picks(alloc)?;
         moving_picks(alloc, self.run.node(), &pass)
+    }
+
+    fn picks_to_try(
+        &self,
+        alloc: A,
+        context: &Program<A>,
+        filter: &F,
+    ) -> Result<Vec<u32, A>, AllocError> {
+        let picks = self.picks(alloc)?;
+        if !filter.is_reduced() {
+            return Ok(picks);
+        }
+        if !filter.is_open() {
+            return Ok(picks);
+        }
+        let first = first_pick(context, self, &picks)?;
+        match first {
+            Some(pick) => pick_alone(alloc, pick),
+            None => Ok(picks),
+        }
+    }
+
+    fn has_room(&self, filter: &F) -> bool {
+        if !filter.is_reduced() {
+            return true;
+        }
+        let made = self.run.journal().len();
+        if made >= JOURNAL {
+            return false;
+        }
+        true
     }
 
     fn is_admitted(&self, alloc: A, filter: &F) -> Result<bool, AllocError> {

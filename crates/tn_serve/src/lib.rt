@@ -13,10 +13,12 @@ mod fault;
 mod line;
 mod request;
 mod runtime;
+mod stream;
 
 pub use answer::{serve_answer, status_number};
 pub use capture::Capture;
 pub use fault::{RequestFault, serve_error};
 pub use line::{Line, next_line};
 pub use request::{MAX_LINE, ServeRequest, read_request};
-pub use runtime::ServeRuntime;
+pub use runtime::{CommandRuntime, OutputRuntime, ServeRuntime, TextInput};
+pub use stream::Stream;

@@ -1,89 +1,71 @@
-// The runtime in which the command line of a request is done.
-use crate::capture::Capture;
-use std::alloc::{Allocator, Global};
-use std::cell::RefCell;
+// The runtime in which one command line is done.
+use crate::stream::{Stream, StreamWriter};
+use std::alloc::Allocator;
 use std::fmt::Display;
 use std::fs::{Metadata, OpenOptions};
 use std::io;
-use std::io::{BufRead, Error, ErrorKind, Lines, Write};
+use std::io::{BufRead, Lines, Write};
 use std::rt::Files;
 
-/// What is written to a stream.
-#[derive(Drop)]
-struct Stream(RefCell<Capture>);
-
-impl Stream {
-    /// Nothing was written yet.
-    fn new(alloc: Global) -> Stream {
-        Stream(RefCell::new(Capture::new(alloc)))
-    }
-
-    /// Writes more.
-    fn append(&self, bytes: &[u8]) -> io::Result<()> {
-        let Ok(mut capture) = self.0.try_borrow_mut() else {
-            return Err(Error::from(ErrorKind::WouldBlock));
-        };
-        match capture.append(bytes) {
-            Ok(()) => Ok(()),
-            Err(refused) => Err(Error::from(refused)),
-        }
-    }
-
-    /// All that was written; None where memory for it was refused.
-    fn into_text(self) -> Option<Vec<u8>> {
-        self.0.into_inner().into_text()
-    }
-}
-
-/// A writer to a stream.
-#[derive(Drop)]
-struct StreamWriter<'a>(&'a Stream);
-
-impl Write for StreamWriter<'_> {
-    fn write(&mut self, buf: &[u8]) -> io::Result<usize> {
-        self.0.append(buf)?;
-        Ok(buf.len())
-    }
-
-    fn flush(&mut self) -> io::Result<()> {
-        Ok(())
-    }
-}
-
-/// A runtime whose standard input is a text and whose standard output and standard error are kept. All else is that of
-/// its host: files and memory. It has no threads: a command that uses them takes its host's.
+/// A text as standard input.
 ///
-/// Each reader of its standard input begins at the beginning of the text. A command reads it once.
+/// Each reader of it begins at the beginning of the text. A command reads it once.
+pub struct TextInput<'a>(&'a [u8]);
+
+/// A runtime whose standard output is captured. Its standard input is `I`, and its standard error `E`. All else is that
+/// of its host: files and memory. It has no threads: a command that uses them takes its host's.
 #[derive(Drop)]
-pub struct ServeRuntime<'a, R> {
+pub struct CommandRuntime<'a, R, I, E> {
     host: &'a R,
-    input: &'a [u8],
+    input: I,
     output: Stream,
-    errors: Stream,
+    errors: E,
 }
 
-impl<'a, R: AllocGlobal> ServeRuntime<'a, R> {
+/// The runtime of a request of `serve`, whose standard error is captured too.
+pub type ServeRuntime<'a, R> = CommandRuntime<'a, R, TextInput<'a>, Stream>;
+
+/// The runtime of a command whose output goes to a file: its standard input and its standard error are its host's.
+pub type OutputRuntime<'a, R> = CommandRuntime<'a, R, &'a R, &'a R>;
+
+impl<'a, R: AllocGlobal> CommandRuntime<'a, R, TextInput<'a>, Stream> {
     /// The runtime over this host, with this standard input. Nothing was written to it yet.
-    pub fn new(host: &'a R, input: &'a [u8]) -> ServeRuntime<'a, R> {
-        ServeRuntime {
+    pub fn with_input(host: &'a R, input: &'a [u8]) -> ServeRuntime<'a, R> {
+        CommandRuntime {
             host,
-            input,
+            input: TextInput(input),
             output: Stream::new(host.alloc()),
             errors: Stream::new(host.alloc()),
         }
     }
-}
 
-impl<R> ServeRuntime<'_, R> {
     /// What was written to standard output, and what to standard error; None where memory for either was refused.
     pub fn into_texts(self) -> Option<(Vec<u8>, Vec<u8>)> {
-        let ServeRuntime { output, errors, .. } = self;
+        let CommandRuntime { output, errors, .. } = self;
         let errors = errors.into_text();
         Some((output.into_text()?, errors?))
     }
 }
 
-impl<R: Alloc> Alloc for ServeRuntime<'_, R> {
+impl<'a, R: AllocGlobal> CommandRuntime<'a, R, &'a R, &'a R> {
+    /// The runtime over this host, with its standard input and its standard error. Nothing was written to it yet.
+    pub fn of_host(host: &'a R) -> OutputRuntime<'a, R> {
+        CommandRuntime {
+            host,
+            input: host,
+            output: Stream::new(host.alloc()),
+            errors: host,
+        }
+    }
+
+    /// What was written to standard output; None where memory for it was refused.
+    pub fn into_output(self) -> Option<Vec<u8>> {
+        let CommandRuntime { output, .. } = self;
+        output.into_text()
+    }
+}
+
+impl<R: Alloc, I, E> Alloc for CommandRuntime<'_, R, I, E> {
     type A = R::A;
 
     fn alloc(&self) -> R::A {
@@ -91,7 +73,7 @@ impl<R: Alloc> Alloc for ServeRuntime<'_, R> {
     }
 }
 
-impl<'a, R> Input for ServeRuntime<'a, R> {
+impl<'a> Input for TextInput<'a> {
     type Reader = &'a [u8];
 
     fn read_line<A: Allocator + Clone>(&self, buf: &mut String<A>) -> io::Result<usize> {
@@ -103,11 +85,27 @@ impl<'a, R> Input for ServeRuntime<'a, R> {
     }
 
     fn reader(&self) -> &'a [u8] {
-        self.input
+        self.0
     }
 }
 
-impl<R> Print for ServeRuntime<'_, R> {
+impl<R, I: Input, E> Input for CommandRuntime<'_, R, I, E> {
+    type Reader = I::Reader;
+
+    fn read_line<A: Allocator + Clone>(&self, buf: &mut String<A>) -> io::Result<usize> {
+        self.input.read_line(buf)
+    }
+
+    fn lines<A: Allocator>(&self, alloc: A) -> Lines<I::Reader, A> {
+        self.input.lines(alloc)
+    }
+
+    fn reader(&self) -> I::Reader {
+        self.input.reader()
+    }
+}
+
+impl<R, I, E> Print for CommandRuntime<'_, R, I, E> {
     fn print<D: Display + Drop>(&self, value: D) -> io::Result<()> {
         write!(StreamWriter(&self.output), "{value}")
     }
@@ -121,17 +119,17 @@ impl<R> Print for ServeRuntime<'_, R> {
     }
 }
 
-impl<R> Eprint for ServeRuntime<'_, R> {
+impl<R, I, E: Eprint> Eprint for CommandRuntime<'_, R, I, E> {
     fn eprint<D: Display + Drop>(&self, value: D) -> io::Result<()> {
-        write!(StreamWriter(&self.errors), "{value}")
+        self.errors.eprint(value)
     }
 
     fn eprintln<D: Display + Drop>(&self, value: D) -> io::Result<()> {
-        writeln!(StreamWriter(&self.errors), "{value}")
+        self.errors.eprintln(value)
     }
 }
 
-impl<R: Files> Files for ServeRuntime<'_, R> {
+impl<R: Files, I, E> Files for CommandRuntime<'_, R, I, E> {
     type File = R::File;
 
     type Dir = R::Dir;

@@ -1,13 +1,14 @@
 -- The parts of the texts of why terms are no match specifications.
-use Rattle.std.proofs.Common.{◌≡◌, ◌∙◌, ℕ, Bool, true, if◌then◌else◌, List, [], ◌∷◌, ◌++◌, Option, Some, None, codes, decimal, refl, sym, ap, append_assoc, append-nil}
+use Rattle.std.proofs.Common.{◌≡◌, ◌∙◌, ℕ, Bool, true, false, if◌then◌else◌, List, [], ◌∷◌, ◌++◌, Option, Some, None, codes, decimal, refl, sym, ap, append_assoc, append-nil}
 use Rattle.std.specs.Option.{option_map}
 use Rattle.std.specs.Str.{bytes_eq}
+use Rattle.std.proofs.lemmas.Slice.Eq.{bytes_eq-Decides}
 use Rattle.def_term.specs.Tree.{tuple, Trees, more, none, atom, count}
 use Rattle.def_term.specs.Names.{Name}
 use Rattle.def_term.specs.Text.{w, comma_list, each_after_comma, atom_text, is_written_bare}
 use Rattle.def_spec.specs.Expressions.{Action, message, return_trace, exception_trace, silent, enable_trace, disable_trace, trace, caller}
 use Rattle.def_spec.specs.Reading.{Callee, Row, row}
-use Rattle.def_explain.specs.ReasonTexts.{row_counts, tuple_text, no_function_text, other_name_text, meant_in, common_slips, with_count}
+use Rattle.def_explain.specs.ReasonTexts.{row_counts, tuple_text, not_modelled_text, no_function_text, other_name_text, meant_in, common_slips, with_count}
 use Rattle.def_trap.specs.Actions.{action_name}
 use Rattle.tn_spec.specs.declared.table.Row as code
 use Rattle.tn_spec.specs.Names.{row_seen, row_of}
@@ -61,6 +62,22 @@ none_meant s ts None e = refl
 none_meant s ts (Some x) e = absurd (cc)
 
 -- `const`
+abbrev pub text_by : Name → Trees → Bool → Bool → List ℕ
+text_by s ts is_const is_tracer =
+    if is_const then codes "const takes 1 argument, found " ++ decimal (count ts) else
+    if is_tracer then not_modelled_text s else
+    no_function_text s ts (meant_in common_slips s)
+
 pub const_text : (s : Name) (ts : Trees) (b : Bool) → b ≡ bytes_eq s (codes "const") → b ≡ true → codes "const takes 1 argument, found " ++ decimal (count ts) ≡ other_name_text s ts
-const_text s ts b e so =
-    sym (ap (λ x. if x then codes "const takes 1 argument, found " ++ decimal (count ts) else no_function_text s ts (meant_in common_slips s)) (sym e ∙ so))
+const_text s ts b e so = sym (ap (λ x. text_by s ts x (bytes_eq s (codes "tracer"))) (sym e ∙ so))
+
+-- `tracer`
+pub tracer_text : (s : Name) (ts : Trees) (b c : Bool) → b ≡ bytes_eq s (codes "const") → b ≡ false → c ≡ bytes_eq s (codes "tracer") → c ≡ true → codes "tracer of OTP 27 isn't modelled" ≡ other_name_text s ts
+unfolding is_written_bare
+tracer_text s ts b c e so f to =
+    sym (ap not_modelled_text ((bytes_eq-Decides s (codes "tracer")).0 (sym f ∙ to)))
+    ∙ sym (λ i. text_by s ts ((sym e ∙ so) i) ((sym f ∙ to) i))
+
+-- another name
+pub name_text : (s : Name) (ts : Trees) (b c : Bool) → b ≡ bytes_eq s (codes "const") → b ≡ false → c ≡ bytes_eq s (codes "tracer") → c ≡ false → no_function_text s ts (meant_in common_slips s) ≡ other_name_text s ts
+name_text s ts b c e so f to = sym (λ i. text_by s ts ((sym e ∙ so) i) ((sym f ∙ to) i))

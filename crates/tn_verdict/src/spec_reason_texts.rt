@@ -7,6 +7,7 @@ ghost use Rattle.def_explain.specs.ReasonTexts.{found_text, count_text, variable
 ghost use Rattle.def_explain.specs.ReasonTexts.{tuple_text, bodies_text, place_text, expression_reason_text};
 ghost use Rattle.def_explain.specs.ReasonTexts.{head_term_reason_text, shape_reason_text, clause_reason_text};
 ghost use Rattle.def_explain.specs.ReasonTexts.{at_clause_text, spec_reason_text, setting_reason_text};
+ghost use Rattle.def_explain.specs.ReasonTexts.{setting_name_text, setting_hint_text};
 ghost use Rattle.tn_term.specs.Views.{tree_of, trees_of};
 ghost use Rattle.tn_spec.specs.Views.{action_of};
 ghost use Rattle.tn_text.specs.Writes.{Grows};
@@ -172,6 +173,12 @@ fn written_name(text: &str) -> Option<&'static [u8]>
         "!=" => Some(b"'/='"),
         "&&" => Some(b"'andalso'"),
         "||" => Some(b"'orelse'"),
+        "gt" => Some(b"'>'"),
+        "ge" => Some(b"'>='"),
+        "lt" => Some(b"'<'"),
+        "le" => Some(b"'=<'"),
+        "eq" => Some(b"'=='"),
+        "ne" => Some(b"'/='"),
         _ => None,
     }
 }
@@ -221,6 +228,9 @@ fn put_other_name<A: Allocator, B: Allocator>(
     if name.text() == "const" {
         out.extend_from_slice(b"const takes 1 argument, found ")?;
         return write_decimal(further_count(terms), out);
+    }
+    if name.text() == "tracer" {
+        return out.extend_from_slice(b"tracer of OTP 27 isn't modelled");
     }
     put_no_function(name, terms, out)
 }
@@ -430,6 +440,31 @@ pub fn put_spec_reason<A: Allocator, B: Allocator>(
     }
 }
 
+/// What a name in place of a specification is elsewhere.
+#[tactic(auto, unfolding(def_term::specs::Text::is_written_bare))]
+fn setting_name(text: &str) -> &'static [u8]
+    ensures { result.now ≡ setting_name_text text.now }
+{
+    match text {
+        "restart" => b": restart of OTP 27 isn't modelled",
+        "pause" => b": pause of OTP 27 isn't modelled",
+        "x" => b": in dbg it is [{'_',[],[{exception_trace}]}]",
+        "c" => b": in dbg it is [{'_',[],[{message,{caller}}]}]",
+        "cx" => b": in dbg it is [{'_',[],[{exception_trace},{message,{caller}}]}]",
+        _ => b"",
+    }
+}
+
+/// What a term in place of a specification is elsewhere.
+fn setting_hint<A: Allocator>(term: &Term<A>) -> &'static [u8]
+    ensures { result.now ≡ setting_hint_text (tree_of term.now) }
+{
+    match term {
+        Term::Atom(name) => setting_name(name.text()),
+        _ => b"",
+    }
+}
+
 /// Appends why a term is no match specification where a command also takes `true`, `false` and `[]`. After an
 /// `Err`, which is refused memory, a part of it may stand there.
 pub fn put_setting_reason<A: Allocator, B: Allocator>(
@@ -442,7 +477,8 @@ pub fn put_setting_reason<A: Allocator, B: Allocator>(
     match why {
         SpecReason::NoClauses(term) => {
             out.extend_from_slice(b"Spec is true, false or a list of clauses")?;
-            put_found(term, out)
+            put_found(term, out)?;
+            out.extend_from_slice(setting_hint(term))
         }
         SpecReason::AtClause(before, why) => put_at_clause(before, why, out),
     }

@@ -13,9 +13,13 @@ returns-clause-arguments c =
     c.in_ok-arg-2.ensures in
     let third = one_more name _ (codes "node") c.in_ok-arg-2.field-0 c.in_ok-arg-3.field-0 c.node.result second c.node.ensures.0
     c.in_ok-arg-3.ensures in
-    let fourth = one_more name _ (codes "json") c.in_ok-arg-3.field-0 c.in_ok-command.command c.json.result third c.json.ensures.0
+    let fourth = one_more name _ (codes "message") c.in_ok-arg-3.field-0 c.in_ok-arg-4.field-0 c.in_ok-message.field-0 third c.in_ok-message.ensures.0
+    c.in_ok-arg-4.ensures in
+    let fifth = one_more name _ (codes "why-not") c.in_ok-arg-4.field-0 c.in_ok-arg-5.field-0 c.in_ok-why_not.field-0 fourth c.in_ok-why_not.ensures.0
+    c.in_ok-arg-5.ensures in
+    let sixth = one_more name _ (codes "json") c.in_ok-arg-5.field-0 c.in_ok-command.command c.json.result fifth c.json.ensures.0
     c.in_ok-command.ensures in
-    expectation_so name _ c.in_ok-command.command c.with_expectation.result fourth c.with_expectation.ensures
+    expectation_so name _ c.in_ok-command.command c.with_expectation.result sixth c.with_expectation.ensures
 
 pub returns-clause-picks : goal.returns-clause-picks
 returns-clause-picks c =
@@ -24,5 +28,7 @@ returns-clause-picks c =
     let first = still_wants g c.in_ok-by_picks_or_rounds.field-0 c.in_ok-arg.field-0 c.session.result wanted.1 c.in_ok-arg.ensures in
     let second = still_wants g c.in_ok-arg.field-0 c.in_ok-arg-2.field-0 c.move_number.result first c.in_ok-arg-2.ensures in
     let third = still_wants g c.in_ok-arg-2.field-0 c.in_ok-arg-3.field-0 c.node.result second c.in_ok-arg-3.ensures in
-    let fourth = still_wants g c.in_ok-arg-3.field-0 c.in_ok-command.command c.json.result third c.in_ok-command.ensures in
-    IfOk-weaker c.with_expectation.result _ _ (λ new more. (g, more.wants_so g fourth, wanted.2)) c.with_expectation.ensures
+    let fourth = still_wants g c.in_ok-arg-3.field-0 c.in_ok-arg-4.field-0 c.in_ok-message.field-0 third c.in_ok-arg-4.ensures in
+    let fifth = still_wants g c.in_ok-arg-4.field-0 c.in_ok-arg-5.field-0 c.in_ok-why_not.field-0 fourth c.in_ok-arg-5.ensures in
+    let sixth = still_wants g c.in_ok-arg-5.field-0 c.in_ok-command.command c.json.result fifth c.in_ok-command.ensures in
+    IfOk-weaker c.with_expectation.result _ _ (λ new more. (g, more.wants_so g sixth, wanted.2)) c.with_expectation.ensures

@@ -25,7 +25,7 @@ returns g c =
     let first = c.loop-form.out.items in
     let d = c.extend_from_slice.new.self.items in
     let done = c.extend_from_slice.result in
-    let all = numbers_after (codes " is declared with ") (declared_arities (map (form_of {A = g.row.A.Denot}) c.args.forms.now) f) in
-    after_ok done c.args.out.now.items all (codes " arguments") first d
+    let all = numbers_after (codes " is declared with the arity ") (declared_arities (map (form_of {A = g.row.A.Denot}) c.args.forms.now) f) in
+    after_ok done c.args.out.now.items all (codes " alone") first d
     (sym (append-nil first) ∙ ap (λ ys. first ++ numbers_after c.loop-form.between.now (declared_arities (map (form_of {A = g.row.A.Denot}) ys) f)) (sym (drop_all c.loop-form.form-index c.args.forms.now c.loop-form-test.false)) ∙ c.loop-form.invariant)
-    (put_ok done first (codes " arguments") d c.extend_from_slice.ensures.items)
+    (put_ok done first (codes " alone") d c.extend_from_slice.ensures.items)

@@ -1,0 +1,4 @@
+pub mod Alone
+pub mod OwnEffects
+pub mod Conditions
+pub mod Laws

@@ -1,0 +1,3 @@
+pub mod MessageChoices
+pub mod ChosenAccounts
+pub mod Laws

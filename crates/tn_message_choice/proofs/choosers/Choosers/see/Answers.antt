@@ -1,0 +1,33 @@
+use Rattle.std.proofs.Common.{subst}
+use Rattle.def_run.specs.Run.{event_item}
+use Rattle.def_run.specs.History.{all_after}
+use Rattle.tn_flags.specs.Views.{event_of}
+use Rattle.tn_message_choice.specs.Choices.{choice_seen, session_asked}
+use Rattle.tn_message_choice.specs.Choosers.{AreChoosers}
+use Rattle.tn_message_choice.proofs.Moves.{shown_of, none_seen, more_seen, all_seen}
+use Rattle.tn_message_choice.proofs.choosers.Choosers.see.Goals as goal
+
+pub loop-event-init : goal.loop-event-init
+loop-event-init g c = λ o ss h.
+    let q = c.args.question.now in
+    (ss, h, none_seen (choice_seen q.choice) (session_asked q) o ss (shown_of event_of c.deref-event-items.result.now))
+
+pub loop-event-preserved : goal.loop-event-preserved
+loop-event-preserved g c = λ o ss h.
+    let q = c.args.question.now in
+    let l = c.loop-event in
+    let e = c.event-item.result in
+    let inv = l.invariant o ss h in
+    let made = c.in_ok-one_chooses.ensures o inv.0 inv.1 in (
+      all_after o inv.0 (event_item (event_of e)),
+      made.0,
+      more_seen (choice_seen q.choice) (session_asked q) o ss event_of inv.0 c.deref-event-items.result.now l.event-index e l.is_chosen c.in_ok-one_chooses.one_chooses c.loop-event-test.true c.event-item.is made.1 inv.2,
+    )
+
+pub returns : goal.returns
+returns g c = λ o ss h.
+    let q = c.args.question.now in
+    let l = c.loop-event in
+    let inv = l.invariant o ss h in
+    let all = all_seen (choice_seen q.choice) (session_asked q) o ss event_of inv.0 c.deref-event-items.result.now c.args.events.now.items l.event-index l.is_chosen c.deref-event-items.ensures.value c.loop-event-test.false inv.2 in
+    (subst (λ ts. AreChoosers o ts l.self) all.0 inv.1, all.1)

@@ -1,0 +1,7 @@
+mod Texts
+mod FlagTexts
+mod OwnCommands
+mod ProcessLemmas
+mod NewSettingLemmas
+mod SessionLemmas
+mod Fronts
