@@ -163,7 +163,6 @@ def completions():
             (("./tracenode", "--r"), ["--release"]),
             (("./tracenode", "--install", "scr"), ["scripts"]),
             (("./tracenode", "--release", "scr"), ["scripts"]),
-            (("tracenode", "explain", "--m"), ["--max-output", "--message", "--move", "--moves", "--moves-file"]),
             (("tracenode", "ru"), ["run"]),
             (("tracenode", "run", "--l"), ["--limit"]),
             (("tracenode", "draw", "--r"), ["--reject-line", "--round"]),
