@@ -61,6 +61,13 @@ impl<A: Allocator + Copy, S: SearchState<A>> Layer<A, S> {
         false
     }
 
+    /// The states.
+    pub fn into_states(self) -> Vec<S, A>
+        ensures { result ≡ self.states }
+    {
+        self.states
+    }
+
     /// Puts the state into its list.
     fn put(&mut self, state: S, list: usize) -> Result<(), AllocError>
         ensures { IfOk result (λ _. self.new.states.items ≡ self.old.states.items ++ state ∷ []) }

@@ -10,6 +10,7 @@ use crate::layer::Layer;
 use crate::search_state::SearchState;
 use indexmap::IndexMap;
 use std::alloc::{AllocError, Allocator};
+use std::collections::VecDeque;
 use std::hash::{BuildHasherDefault, FoldHasher, Hash};
 
 /// How many layers there may be: journals have up to 65,536 picks, and the layer after those is empty.
@@ -78,7 +79,7 @@ fn try_state<A: Allocator + Copy, S: SearchState<A>>(
     if !state.is_admitted(alloc, filter)? {
         return answer(alloc, state, answers);
     }
-    let picks = state.picks(alloc)?;
+    let picks = state.picks(alloc, context)?;
     let moved = try_picks(context, state, &picks, next)?;
     if moved {
         return Ok(());
@@ -86,26 +87,33 @@ fn try_state<A: Allocator + Copy, S: SearchState<A>>(
     answer(alloc, state, answers)
 }
 
-/// Tries each state of a layer, while the next has fewer than so many states: whether all were tried.
+/// Tries each state of a layer, while the next has fewer than so many states: whether all were tried. Each is gone once
+/// it was tried, so that the memory of one layer is taken by the next.
 fn try_layer<A: Allocator + Copy, S: SearchState<A>>(
     context: &S::Context,
     filter: &S::Filter,
-    states: &[S],
+    states: Vec<S, A>,
     next: &mut Layer<A, S>,
     answers: &mut Answers<A, S::Observation>,
     room: usize,
 ) -> Result<bool, AllocError>
     ensures { IfOk result (λ complete. (a : Query) (depth : ℕ) (tried : List (List ℕ)) →
-        S.filters filter.now a → next.old.states.items ≡ [] → AreAt S.journal (S.is_of context.now) a depth states.now →
-        HaveTried a depth (tried ++ map S.journal states.now) tried (answer_entries S.kept_seen answers.old.entries) →
-        TriesLayer S.journal (S.is_of context.now) a depth tried states.now next.new.states.items
+        S.filters filter.now a → next.old.states.items ≡ [] →
+        AreAt S.journal (S.is_of context.now) a depth states.items →
+        HaveTried a depth (tried ++ map S.journal states.items) tried (answer_entries S.kept_seen answers.old.entries) →
+        TriesLayer S.journal (S.is_of context.now) a depth tried states.items next.new.states.items
         (answer_entries S.kept_seen answers.new.entries) room complete) }
 {
-    for state in states {
+    let count = states.len();
+    let mut rest = VecDeque::from(states);
+    for _ in 0..count {
         if next.states.len() >= room {
             return Ok(false);
         }
-        try_state(context, filter, state, next, answers)?;
+        let Some(state) = rest.pop_front() else {
+            return Ok(true);
+        };
+        try_state(context, filter, &state, next, answers)?;
     }
     Ok(true)
 }
@@ -151,7 +159,7 @@ pub fn explore<A: Allocator + Copy, S: SearchState<A>>(
         let is_complete = try_layer(
             context,
             filter,
-            &layer.states,
+            layer.into_states(),
             &mut next,
             &mut answers,
             room,

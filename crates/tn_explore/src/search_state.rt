@@ -33,8 +33,8 @@ pub trait SearchState<A: Allocator>: Sized + Drop {
     ghost kept_seen: { Self.Observation → KeptMessages };
 
     /// The picks that may move.
-    fn picks(&self, alloc: A) -> Result<Vec<u32, A>, AllocError>
-        ensures { IfOk result (λ v. (x : Self.Context) → HasAllMoves journal (is_of x) self.now v.items) };
+    fn picks(&self, alloc: A, context: &Self::Context) -> Result<Vec<u32, A>, AllocError>
+        ensures { IfOk result (λ v. HasAllMoves journal (is_of context.now) self.now v.items) };
 
     /// Whether the filter admits what is kept of its messages. Where it doesn't, the run ends there.
     fn is_admitted(&self, alloc: A, filter: &Self::Filter) -> Result<bool, AllocError>

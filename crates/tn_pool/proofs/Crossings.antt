@@ -127,6 +127,12 @@ module _ (T : RattleType) (g : Ghosts T.Denot) (s : IsSend T) (f : Frees g g.dea
   atom_field_sync : IsSync (atom.the_field T g).row
   atom_field_sync = search (sendable, crosses, atom_sync) depth 40 fits 3000 parts 0
 
+  mfa_sync : IsSync (mfa.the_row T g)
+  mfa_sync = search (sendable, crosses, atom_sync, atom_field_sync) depth 40 fits 3000 parts 0
+
+  mfa_field_sync : IsSync (mfa.the_field T g).row
+  mfa_field_sync = search (sendable, crosses, atom_sync, atom_field_sync, mfa_sync) depth 40 fits 3000 parts 0
+
   term_sync : IsSync (term.the_row T g)
   term_sync = search (sendable, crosses, atom_sync, atom_field_sync, term_knot.sync-Term) depth 40 fits 3000 parts 0
 
@@ -463,10 +469,10 @@ module _ (T : RattleType) (g : Ghosts T.Denot) (s : IsSend T) (f : Frees g g.dea
   settings_field_send S k = search (sendable, crosses, covering_send, covering_field_send, indexed_send, indexed_field_send, index_map_send, index_map_field_send, hashing_send, hashing_field_send, folding_sent.the_send, settings_send) depth 40 fits 3000 parts 0
 
   state_send : IsSend (state.the_row T g)
-  state_send = search (sendable, crosses, mfa_send, mfa_field_send, shared_spec_send, shared_spec_field_send, settings_send, settings_field_send, setting_send, setting_field_send, alive_sent.the_send, alive_sent.the_field_send, flags_sent.the_send, flags_sent.the_field_send, phase_sent.the_send, phase_sent.the_field_send, mark_sent.the_send, mark_sent.the_field_send, mark_kind_sent.the_send, mark_kind_sent.the_field_send) depth 40 fits 3000 parts 0
+  state_send = search (sendable, crosses, mfa_send, mfa_field_send, mfa_sync, mfa_field_sync, shared_spec_send, shared_spec_field_send, settings_send, settings_field_send, setting_send, setting_field_send, alive_sent.the_send, alive_sent.the_field_send, flags_sent.the_send, flags_sent.the_field_send, phase_sent.the_send, phase_sent.the_field_send, mark_sent.the_send, mark_sent.the_field_send, mark_kind_sent.the_send, mark_kind_sent.the_field_send) depth 40 fits 3000 parts 0
 
   state_field_send : IsSend (state.the_field T g).row
-  state_field_send = search (sendable, crosses, mfa_send, mfa_field_send, shared_spec_send, shared_spec_field_send, settings_send, settings_field_send, setting_send, setting_field_send, alive_sent.the_send, alive_sent.the_field_send, flags_sent.the_send, flags_sent.the_field_send, phase_sent.the_send, phase_sent.the_field_send, mark_sent.the_send, mark_sent.the_field_send, mark_kind_sent.the_send, mark_kind_sent.the_field_send, state_send) depth 40 fits 3000 parts 0
+  state_field_send = search (sendable, crosses, mfa_send, mfa_field_send, mfa_sync, mfa_field_sync, shared_spec_send, shared_spec_field_send, settings_send, settings_field_send, setting_send, setting_field_send, alive_sent.the_send, alive_sent.the_field_send, flags_sent.the_send, flags_sent.the_field_send, phase_sent.the_send, phase_sent.the_field_send, mark_sent.the_send, mark_sent.the_field_send, mark_kind_sent.the_send, mark_kind_sent.the_field_send, state_send) depth 40 fits 3000 parts 0
 
   session_send : IsSend (session.the_row T g)
   session_send = search (sendable, crosses, state_send, state_field_send) depth 40 fits 3000 parts 0

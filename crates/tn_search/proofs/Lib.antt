@@ -1,7 +1,7 @@
 pub mod RunStates
 pub mod Sessions
 pub mod Places
-pub mod Probes
+pub mod ReadyPicks
 pub mod Steps
 pub mod Gathers
 pub mod OnlyEntries

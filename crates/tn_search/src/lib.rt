@@ -12,6 +12,7 @@ mod greedy;
 mod process_sink;
 mod program_state;
 mod random;
+mod ready_picks;
 mod search_sink;
 mod session_states;
 mod total_sink;

@@ -1,4 +1,4 @@
-use Rattle.std.proofs.Common.{◌≡◌, ◌+◌, min, sym, subst, [], ◌∙◌, length, arith}
+use Rattle.std.proofs.Common.{◌≡◌, ◌+◌, min, ap, sym, subst, [], ◌∙◌, length, arith}
 use Rattle.std.specs.Prelude.{vec_len}
 use Rattle.std.proofs.lemmas.Bool.{eqb-true}
 use Rattle.def_run.specs.Run.{start}
@@ -38,7 +38,7 @@ returns-then-not-is_complete g c = λ a is_of filters is.
     let es = answer_entries g.S.SearchState.kept_seen c.try_layer.new.answers.entries in
     let room = c.saturating_sub-room.result in
     let done = c.in_ok-is_complete.is_complete in
-    let tried = tried_layer J I a c.loop.counter layer c.deref.result.now new old es c.loop.states room done b c.deref.ensures.value (λ depth tried at have. c.in_ok-is_complete.ensures a depth tried filters c.new-next.ensures at have) in
+    let tried = tried_layer J I a c.loop.counter layer c.into_states.result.items new old es c.loop.states room done b (ap (λ v. v.items) c.into_states.ensures) (λ depth tried at have. c.in_ok-is_complete.ensures a depth tried filters c.new-next.ensures at have) in
     let sum : c.saturating_add-met.result ≡ min (c.loop.states + length new) 18446744073709551615 = omega (arith, c.saturating_add-met.ensures, c.len.ensures, c.try_layer.new.next.states.ok.0) in
     explored_part J I a c.loop.counter layer new old es c.args.max_states c.loop.states room c.saturating_add-met.result done b c.if-not-is_complete.true tried sum c.saturating_sub-room.ensures (omega (arith, c.ranges.max_states.fits))
 
@@ -53,7 +53,7 @@ loop-preserved g c = λ a is_of filters is.
     let es = answer_entries g.S.SearchState.kept_seen c.try_layer.new.answers.entries in
     let room = c.saturating_sub-room.result in
     let done = c.in_ok-is_complete.is_complete in
-    let tried = tried_layer J I a c.loop.counter layer c.deref.result.now new old es c.loop.states room done b c.deref.ensures.value (λ depth tried at have. c.in_ok-is_complete.ensures a depth tried filters c.new-next.ensures at have) in
+    let tried = tried_layer J I a c.loop.counter layer c.into_states.result.items new old es c.loop.states room done b (ap (λ v. v.items) c.into_states.ensures) (λ depth tried at have. c.in_ok-is_complete.ensures a depth tried filters c.new-next.ensures at have) in
     let sum : c.saturating_add-met.result ≡ min (c.loop.states + length new) 18446744073709551615 = omega (arith, c.saturating_add-met.ensures, c.len.ensures, c.try_layer.new.next.states.ok.0) in
     let counted : length layer ≡ vec_len c.loop.layer.states = omega (arith, c.loop.layer.states.ok.0) in
     before_next J I a c.loop.counter layer new old es c.loop.states room c.saturating_add-met.result (vec_len c.loop.layer.states) done b c.if-not-is_complete.false counted (sym c.is_empty.ensures ∙ c.if-is_empty.false) tried sum
