@@ -128,6 +128,26 @@ pub fn newest<'a, A: Allocator + Copy>(
     (one.newest(call), other.newest(same_call))
 }
 
+/// `tn_session::Look::setting_count` has one answer.
+pub fn setting_count<A: Allocator + Copy>(one: &Look<'_, A>, other: &Look<'_, A>) -> (usize, usize)
+    requires { look_seen one.now ≡ look_seen other.now }
+    ensures { result.0 ≡ result.1 }
+{
+    (one.setting_count(), other.setting_count())
+}
+
+/// `tn_session::Look::function_setting` has one answer.
+pub fn function_setting<'a, A: Allocator + Copy>(
+    one: &Look<'a, A>,
+    other: &Look<'a, A>,
+    place: usize,
+) -> (Option<NewestSetting<'a, A>>, Option<NewestSetting<'a, A>>)
+    requires { look_seen one.now ≡ look_seen other.now }
+    ensures { option_map newest_seen result.0 ≡ option_map newest_seen result.1 }
+{
+    (one.function_setting(place), other.function_setting(place))
+}
+
 /// `tn_session::Look::newest_among` has one answer.
 pub fn newest_among<'a, A: Allocator + Copy>(
     one: &Look<'a, A>,

@@ -1,6 +1,7 @@
 // A session, as its users see it.
 ghost use Rattle.std.specs.Prelude.{◌≡◌, IfOk, IsErr, IsNone, OnErr, map};
 ghost use Rattle.std.specs.Option.{option_map};
+ghost use Rattle.std.specs.Arc.{arc_value};
 ghost use Rattle.tn_term.specs.Views.{alive_of, tree_of};
 ghost use Rattle.tn_flags.specs.Views.{command_of, event_of, flags_of};
 ghost use Rattle.tn_session.specs.Sessions.{value_in};
@@ -10,6 +11,7 @@ ghost use Rattle.tn_session.specs.Views.{function_seen};
 ghost use Rattle.complete_session.specs.Afterwards.{term_seen};
 
 use std::alloc::{AllocError, Allocator};
+use std::sync::Arc;
 use tn_flags::{Command, Event, Flags};
 use tn_session::{Look, Message, Room, Session};
 use tn_term::{Alive, Mfa, Term};
@@ -17,10 +19,10 @@ use tn_term::{Alive, Mfa, Term};
 /// `tn_session::Session::created` has one answer.
 pub fn created<A: Allocator + Copy>(
     alloc: A,
-    one: (Vec<(Mfa<A>, bool), A>, Alive),
-    other: (Vec<(Mfa<A>, bool), A>, Alive),
+    one: (Arc<Vec<(Mfa<A>, bool), A>, A>, Alive),
+    other: (Arc<Vec<(Mfa<A>, bool), A>, A>, Alive),
 ) -> (Session<A>, Session<A>)
-    requires functions { map function_seen one.0.items ≡ map function_seen other.0.items }
+    requires functions { map function_seen (arc_value one.0).items ≡ map function_seen (arc_value other.0).items }
     requires alive { alive_of one.1 ≡ alive_of other.1 }
     ensures { value_in result.0 ≡ value_in result.1 }
 {

@@ -1,6 +1,7 @@
 // Calls that no command of the program makes, each with ample memory.
 use std::alloc::Global;
 use std::process::Abort;
+use std::sync::Arc;
 use std::test::Fail;
 use tn_flags::Event;
 use tn_program::{Program, program};
@@ -32,7 +33,7 @@ fn check_same(rt: &impl Abort, alloc: Global, program: &Program<Global>) -> Resu
 /// After the last command of the program a session has a message of a link, as a term.
 fn check_event(rt: &impl Abort, alloc: Global, program: &Program<Global>) -> Result<(), Fail> {
     let command = program.commands().last().ok_or("no command")?;
-    let mut session = Session::created(alloc, Vec::new(alloc), Alive::first(2));
+    let mut session = Session::created(alloc, Arc::new(alloc, Vec::new(alloc))?, Alive::first(2));
     let _ = session.command(command)?;
     let (pid, other) = (100, 101);
     assert!(rt; session.event(&Event::Linked { pid, other })?.is_some());

@@ -21,7 +21,7 @@ pub struct Layer<A: Allocator, S> {
 impl<A: Allocator + Copy, S: SearchState<A>> Layer<A, S> {
     ghost use Rattle.std.specs.Prelude.{[], ◌∷◌, ◌++◌};
     ghost use Rattle.tn_explore.specs.Query.{Query};
-    ghost use Rattle.tn_explore.specs.Searches.{IsAt, AreAt, HasSame, AddsState};
+    ghost use Rattle.tn_explore.specs.Searches.{IsAt, AreAt, HasSame, AddsState, LayerHasRoom};
 
     /// No state.
     pub fn new(alloc: A) -> Layer<A, S>
@@ -59,6 +59,23 @@ impl<A: Allocator + Copy, S: SearchState<A>> Layer<A, S> {
             };
         }
         false
+    }
+
+    /// Whether the journals of its states have room for a pick more, where picks are left out.
+    pub fn has_room(&self) -> bool
+        ensures { (x : S.Context) → LayerHasRoom S.journal (S.is_of x) S.leaves_out self.now.states.items result }
+    {
+        match self.states.first() {
+            Some(state) => state.has_room(),
+            None => true,
+        }
+    }
+
+    /// The states.
+    pub fn into_states(self) -> Vec<S, A>
+        ensures { result ≡ self.states }
+    {
+        self.states
     }
 
     /// Puts the state into its list.

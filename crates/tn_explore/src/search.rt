@@ -1,5 +1,5 @@
 // The search through all states, a layer at a time.
-ghost use Rattle.std.specs.Prelude.{◌≡◌, ◌+◌, ℕ, List, [], ◌∷◌, ◌++◌, IfOk, IsTrue, map, true};
+ghost use Rattle.std.specs.Prelude.{◌≡◌, ◌+◌, ℕ, List, [], ◌∷◌, ◌++◌, IfOk, IfSome, IfNone, IsTrue, map, true};
 ghost use Rattle.def_explore.specs.Answers.{RestEntry};
 ghost use Rattle.def_run.specs.Run.{moves};
 ghost use Rattle.tn_explore.specs.Query.{Query, AdmitsFor};
@@ -10,6 +10,7 @@ use crate::layer::Layer;
 use crate::search_state::SearchState;
 use indexmap::IndexMap;
 use std::alloc::{AllocError, Allocator};
+use std::collections::VecDeque;
 use std::hash::{BuildHasherDefault, FoldHasher, Hash};
 
 /// How many layers there may be: journals have up to 65,536 picks, and the layer after those is empty.
@@ -71,14 +72,15 @@ fn try_state<A: Allocator + Copy, S: SearchState<A>>(
     ensures { IfOk result (λ _. (a : Query) (depth : ℕ) → S.filters filter.now a →
         AreAt S.journal (S.is_of context.now) a (depth + 1) next.old.states.items →
         IsAt S.journal (S.is_of context.now) a depth state.now →
-        TriesState S.journal (S.is_of context.now) a (depth + 1) state.now next.old.states.items next.new.states.items
+        TriesState S.journal (S.is_of context.now) S.leaves_out a (depth + 1) state.now
+        next.old.states.items next.new.states.items
         (answer_entries S.kept_seen answers.old.entries) (answer_entries S.kept_seen answers.new.entries)) }
 {
     let alloc = next.alloc;
     if !state.is_admitted(alloc, filter)? {
         return answer(alloc, state, answers);
     }
-    let picks = state.picks(alloc)?;
+    let picks = state.picks_to_try(alloc, context)?;
     let moved = try_picks(context, state, &picks, next)?;
     if moved {
         return Ok(());
@@ -86,26 +88,34 @@ fn try_state<A: Allocator + Copy, S: SearchState<A>>(
     answer(alloc, state, answers)
 }
 
-/// Tries each state of a layer, while the next has fewer than so many states: whether all were tried.
+/// Tries each state of a layer, while the next has fewer than so many states: whether all were tried. Each is gone once
+/// it was tried, so that the memory of one layer is taken by the next.
 fn try_layer<A: Allocator + Copy, S: SearchState<A>>(
     context: &S::Context,
     filter: &S::Filter,
-    states: &[S],
+    states: Vec<S, A>,
     next: &mut Layer<A, S>,
     answers: &mut Answers<A, S::Observation>,
     room: usize,
 ) -> Result<bool, AllocError>
     ensures { IfOk result (λ complete. (a : Query) (depth : ℕ) (tried : List (List ℕ)) →
-        S.filters filter.now a → next.old.states.items ≡ [] → AreAt S.journal (S.is_of context.now) a depth states.now →
-        HaveTried a depth (tried ++ map S.journal states.now) tried (answer_entries S.kept_seen answers.old.entries) →
-        TriesLayer S.journal (S.is_of context.now) a depth tried states.now next.new.states.items
-        (answer_entries S.kept_seen answers.new.entries) room complete) }
+        S.filters filter.now a → next.old.states.items ≡ [] →
+        AreAt S.journal (S.is_of context.now) a depth states.items →
+        HaveTried S.leaves_out a depth (tried ++ map S.journal states.items) tried
+        (answer_entries S.kept_seen answers.old.entries) →
+        TriesLayer S.journal (S.is_of context.now) S.leaves_out a depth tried states.items
+        next.new.states.items (answer_entries S.kept_seen answers.new.entries) room complete) }
 {
-    for state in states {
+    let count = states.len();
+    let mut rest = VecDeque::from(states);
+    for _ in 0..count {
         if next.states.len() >= room {
             return Ok(false);
         }
-        try_state(context, filter, state, next, answers)?;
+        let Some(state) = rest.pop_front() else {
+            return Ok(true);
+        };
+        try_state(context, filter, &state, next, answers)?;
     }
     Ok(true)
 }
@@ -121,18 +131,21 @@ pub struct Exploration<A: Allocator, M: Eq + Hash> {
     pub is_complete: bool,
 }
 
-/// Tries all states from the first on, until so many were met. A run that is not admitted ends there. An error is
-/// refused memory.
+/// Tries all states from the first on, until so many were met. A run that is not admitted ends there. None where picks
+/// are left out and a journal may have no room for a pick more: the search that leaves out none answers then. An error
+/// is refused memory.
 pub fn explore<A: Allocator + Copy, S: SearchState<A>>(
     alloc: A,
     context: &S::Context,
     filter: &S::Filter,
     first: S,
     max_states: usize,
-) -> Result<Exploration<A, S::Observation>, AllocError>
-    ensures { IfOk result (λ e. (a : Query) →
+) -> Result<Option<Exploration<A, S::Observation>>, AllocError>
+    ensures some { IfOk result (λ o. IfSome o (λ e. (a : Query) →
         S.is_of context.now first a → S.filters filter.now a → S.journal first ≡ moves a.program a.before →
-        Explores a (answer_entries S.kept_seen e.answers.entries) max_states e.states e.is_complete) }
+        Explores S.leaves_out a (answer_entries S.kept_seen e.answers.entries) max_states
+        e.states e.is_complete)) }
+    ensures none { IfOk result (λ o. IfNone o (S.leaves_out ≡ true)) }
 {
     let mut layer = Layer::new(alloc);
     layer.add(first)?;
@@ -140,36 +153,39 @@ pub fn explore<A: Allocator + Copy, S: SearchState<A>>(
     let mut states = layer.states.len();
     for _ in 0..LAYERS {
         if layer.states.is_empty() {
-            return Ok(Exploration {
+            return Ok(Some(Exploration {
                 answers,
                 states,
                 is_complete: true,
-            });
+            }));
+        }
+        if !layer.has_room() {
+            return Ok(None);
         }
         let mut next = Layer::new(alloc);
         let room = max_states.saturating_sub(states);
         let is_complete = try_layer(
             context,
             filter,
-            &layer.states,
+            layer.into_states(),
             &mut next,
             &mut answers,
             room,
         )?;
         let met = states.saturating_add(next.states.len());
         if !is_complete {
-            return Ok(Exploration {
+            return Ok(Some(Exploration {
                 answers,
                 states: met,
                 is_complete,
-            });
+            }));
         }
         layer = next;
         states = met;
     }
-    Ok(Exploration {
+    Ok(Some(Exploration {
         answers,
         states,
         is_complete: false,
-    })
+    }))
 }

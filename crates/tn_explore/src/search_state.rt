@@ -5,11 +5,11 @@ use std::hash::Hash;
 /// A node with its sessions and what is kept of their messages, and the journal that led there. A filter says which
 /// runs are followed.
 pub trait SearchState<A: Allocator>: Sized + Drop {
-    ghost use Rattle.std.specs.Prelude.{◌≡◌, ℕ, List, IfOk};
+    ghost use Rattle.std.specs.Prelude.{◌≡◌, ℕ, Bool, List, IfOk};
     ghost use Rattle.def_explore.specs.Rests.{KeptMessages};
     ghost use Rattle.tn_explore.specs.Query.{Query};
-    ghost use Rattle.tn_explore.specs.SearchStates.{IsCopy, AdvancesState, HasAllMoves, IsAdmitted, AreSame};
-    ghost use Rattle.tn_explore.specs.SearchStates.{KeepsFor, EqualsByKept};
+    ghost use Rattle.tn_explore.specs.SearchStates.{IsCopy, AdvancesState, HasAllMoves, HasEnoughPicks, HasRoom};
+    ghost use Rattle.tn_explore.specs.SearchStates.{IsAdmitted, AreSame, KeepsFor, EqualsByKept};
 
     /// What all states of a search have in common, as the program of a run.
     type Context;
@@ -29,12 +29,25 @@ pub trait SearchState<A: Allocator>: Sized + Drop {
     /// The filter admits what is admitted for this question.
     ghost filters: { Self.Filter → Query → Type 0 };
 
+    /// Whether picks are left out that others go before which are independent of all.
+    ghost leaves_out: { Bool };
+
     /// What the definitions keep.
     ghost kept_seen: { Self.Observation → KeptMessages };
 
     /// The picks that may move.
-    fn picks(&self, alloc: A) -> Result<Vec<u32, A>, AllocError>
-        ensures { IfOk result (λ v. (x : Self.Context) → HasAllMoves journal (is_of x) self.now v.items) };
+    fn picks(&self, alloc: A, context: &Self::Context) -> Result<Vec<u32, A>, AllocError>
+        ensures { IfOk result (λ v. HasAllMoves journal (is_of context.now) self.now v.items) };
+
+    /// The picks that are tried: those that may move; where picks are left out, perhaps such alone as are independent
+    /// of all others.
+    fn picks_to_try(&self, alloc: A, context: &Self::Context) -> Result<Vec<u32, A>, AllocError>
+        ensures { IfOk result (λ v.
+            HasEnoughPicks journal (is_of context.now) filters leaves_out self.now v.items) };
+
+    /// Whether its journal has room for a pick more, where picks are left out. Where none are it is true.
+    fn has_room(&self) -> bool
+        ensures { (x : Self.Context) → HasRoom journal (is_of x) leaves_out self.now result };
 
     /// Whether the filter admits what is kept of its messages. Where it doesn't, the run ends there.
     fn is_admitted(&self, alloc: A, filter: &Self::Filter) -> Result<bool, AllocError>

@@ -39,7 +39,7 @@ fn next_state<A: Allocator + Copy, S: SearchState<A>>(
     ensures { IfOk result (λ o. (a : Query) → S.filters filter.now a → S.is_of context.now state.now a →
         IsNextState S.journal (S.is_of context.now) a picks.now state.now o) }
 {
-    let moving = state.picks(alloc)?;
+    let moving = state.picks(alloc, context)?;
     for pick in picks {
         if moving.contains(pick) {
             let after = state_after(alloc, context, filter, state, *pick)?;

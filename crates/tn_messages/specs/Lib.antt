@@ -1,2 +1,3 @@
 pub mod MessageViews
+pub mod Filters
 pub mod Equality

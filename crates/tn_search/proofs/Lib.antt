@@ -1,7 +1,10 @@
 pub mod RunStates
 pub mod Sessions
 pub mod Places
-pub mod Probes
+pub mod ReadyPicks
 pub mod Steps
+pub mod FreeSessions
+pub mod FirstPicks
+pub mod Reductions
 pub mod Gathers
 pub mod OnlyEntries

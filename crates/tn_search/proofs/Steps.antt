@@ -1,8 +1,7 @@
 -- Steps of a state, its picks, and when two states are the same.
-use Rattle.std.proofs.Common.{◌≡◌, ◌∙◌, ◌+◌, ◌<◌, ◌≤◌, ℕ, Bool, true, false, List, [], ◌∷◌, ◌++◌, length, take, All, Option, Some, refl, sym, ap, subst, arith, if◌then◌else◌, length-append}
-use Rattle.std.specs.List.{Contains}
+use Rattle.std.proofs.Common.{◌≡◌, ◌∙◌, ◌+◌, ◌<◌, ◌≤◌, ℕ, Bool, true, false, List, [], ◌∷◌, ◌++◌, length, take, Option, Some, refl, sym, ap, subst, arith, if◌then◌else◌, length-append}
+use Rattle.std.specs.List.{Contains, filter}
 use Rattle.std.proofs.lemmas.List.{length-map, take_all}
-use Rattle.std.proofs.lemmas.List.Elements.{All-contains}
 use Rattle.def_term.specs.Tree.{Tree}
 use Rattle.def_script.specs.Program.{Program}
 use Rattle.def_script.specs.Exports.{exports_of}
@@ -35,11 +34,13 @@ use Rattle.tn_explore.specs.Query.{Query, AlikeFor, kept_for}
 use Rattle.tn_explore.specs.SearchStates.{StepGives, IsAdmitted}
 use Rattle.tn_messages.specs.MessageViews.{kept_lists}
 use Rattle.tn_messages.proofs.SessionLists.{kept_of_lists}
-use Rattle.tn_search.specs.Probes.{IsNodeAfter, HasMovesAmong}
+use Rattle.tn_search.specs.Probes.{IsNodeAfter}
+use Rattle.tn_search.specs.ReadyPicks.{may_move_by}
 use Rattle.tn_search.specs.Sessions.{AreSameAt, AreKeptAt, AreSinksOf, names_at, elements_at, track_messages}
 use Rattle.tn_search.specs.States.{IsStateFor, IsFilterFor, state_journal, query_of}
 use Rattle.tn_search.specs.declared.program_state.ProgramState.{ProgramState}
 use Rattle.tn_search.proofs.Places.{alike_at, messages_at}
+use Rattle.tn_search.proofs.ReadyPicks.{moving_may_move, among_filtered}
 use Rattle.tn_search.proofs.RunStates.{run_state_is}
 
 -- ---- a step
@@ -114,12 +115,13 @@ module _ {A K F : Type 0} (Keeps : K → List Tree → Type 0) (b : Bool) (x : c
       let most : length x.entries.items ≤ 16 = x.few_processes in
       omega arith
 
-  pub all_moves : (node : Option NodeValue) (picks moving : List ℕ) (pick : ℕ) → node ≡ s.run.node → picks ≡ pass → length (state_journal s) < 65536 → HasMovesAmong node picks moving → IsMovingAfter a.program (state_journal s) pick → Contains moving pick
-  all_moves node picks moving pick same all room among h =
+  pub all_moves : (node : Option NodeValue) (picks ready : List ℕ) (pick : ℕ) → node ≡ s.run.node → picks ≡ pass → length (state_journal s) < 65536 → ready ≡ filter (may_move_by (program_of x) node) picks → IsMovingAfter a.program (state_journal s) pick → Contains ready pick
+  all_moves node picks ready pick same all room those h =
       let long : length (moves a.program (state_journal s)) ≡ length (state_journal s) = ap length is.run.moved in
       let here : IsNodeAfter a.program (state_journal s) node = record { at = same ∙ is.run.node; room = omega arith } in
-      All-contains (λ q. IsMovingAfter a.program (state_journal s) q → Contains moving q) pass pick (subst (All (λ q. IsMovingAfter a.program (state_journal s) q → Contains moving q)) all (among a.program (state_journal s) here))
-      (moves_are_of_a_pass a.program (state_journal s) pick few h) h
+      let may : may_move_by (program_of x) node pick ≡ true = ap (λ (p : Program). may_move_by p node pick) is.program ∙ moving_may_move a.program (state_journal s) pick node here h in
+      let one : Contains picks pick = subst (λ ps. Contains ps pick) (sym all) (moves_are_of_a_pass a.program (state_journal s) pick few h) in
+      subst (λ ps. Contains ps pick) (sym those) (among_filtered (may_move_by (program_of x) node) picks pick one may)
 
   pub no_moves : (moving : List ℕ) (pick : ℕ) → 65536 ≤ length (state_journal s) → IsMovingAfter a.program (state_journal s) pick → Contains moving pick
   no_moves moving pick full h = absurd (both_ways (pick_step_after a.program (state_journal s) pick).moved h (full_idles a.program (state_journal s) pick is.run.moved full))

@@ -1,6 +1,8 @@
 pub mod Sinks
 pub mod Sessions
 pub mod Probes
+pub mod ReadyPicks
 pub mod States
 pub mod GreedyRuns
 pub mod RandomRuns
+pub mod FirstPicks

@@ -1,7 +1,8 @@
 // A state of a program's runs.
 ghost use Rattle.std.specs.Prelude.{◌≡◌, IfOk};
-ghost use Rattle.tn_search.specs.Probes.{HasMovesAmong, Probes, TriesPick};
 
+use crate::ready_picks::ready_picks;
+use crate::reduction::{first_pick, pick_alone};
 use crate::search_sink::SearchSink;
 use crate::session_states::{add_slots, same_living, same_slots, share_kept};
 use std::alloc::{AllocError, Allocator};
@@ -9,7 +10,6 @@ use std::hash::{FoldHasher, Hasher};
 use std::marker::PhantomData;
 use tn_explore::SearchState;
 use tn_messages::{KeptListings, RunFilter};
-use tn_node::{Moved, Node};
 use tn_program::Program;
 use tn_trace::{JOURNAL, PickOutcome, Recorder, Run, pass_picks};
 
@@ -35,49 +35,6 @@ pub(crate) fn copy_places<A: Allocator>(
     Ok(copy)
 }
 
-/// Whether a node moves by this pick. One that doesn't is as it was.
-fn moves_by<A: Allocator + Copy>(node: &mut Node<A>, pick: u32) -> Result<bool, AllocError>
-    ensures { IfOk result (Probes pick node.old node.new) }
-{
-    match node.step(pick)? {
-        Moved::Idle => Ok(false),
-        _ => Ok(true),
-    }
-}
-
-/// Tries a pick: where the node moves by it, it is one of those that move it, and what was tried is that node again.
-fn try_pick<A: Allocator + Copy>(
-    node: &Node<A>,
-    pick: u32,
-    probe: &mut Node<A>,
-    moving: &mut Vec<u32, A>,
-) -> Result<(), AllocError>
-    ensures { IfOk result (λ _. TriesPick pick node.now probe.old probe.new moving.old.items moving.new.items) }
-{
-    let moved = moves_by(probe, pick)?;
-    if moved {
-        *probe = node.share()?;
-        moving.push(pick)?;
-    }
-    Ok(())
-}
-
-/// Those of some picks by which a node moves.
-fn moving_picks<A: Allocator + Copy>(
-    alloc: A,
-    node: &Node<A>,
-    picks: &[u32],
-) -> Result<Vec<u32, A>, AllocError>
-    ensures { IfOk result (λ v. HasMovesAmong node.now picks.now v.items) }
-{
-    let mut probe = node.share()?;
-    let mut moving = Vec::new(alloc);
-    for pick in picks {
-        try_pick(node, *pick, &mut probe, &mut moving)?;
-    }
-    Ok(moving)
-}
-
 impl<A: Allocator + Copy, K: SearchSink<A> + Drop, F: RunFilter<A>> SearchState<A>
     for ProgramState<A, K, F> {
     ghost use Rattle.std.proofs.Common.{refl};
@@ -97,15 +54,40 @@ impl<A: Allocator + Copy, K: SearchSink<A> + Drop, F: RunFilter<A>> SearchState<
 
     ghost filters = { IsFilterFor F.admits };
 
+    ghost leaves_out = { F.leaves_out };
+
     ghost kept_seen = { kept_seen };
 
-    fn picks(&self, alloc: A) -> Result<Vec<u32, A>, AllocError> {
+    fn picks(&self, alloc: A, context: &Program<A>) -> Result<Vec<u32, A>, AllocError> {
         let made = self.run.journal().len();
         if made >= JOURNAL {
             return Ok(Vec::new(alloc));
         }
         let pass = pass_picks(alloc)?;
-        moving_picks(alloc, self.run.node(), &pass)
+        ready_picks(alloc, context, self.run.node(), &pass)
+    }
+
+    fn picks_to_try(&self, alloc: A, context: &Program<A>) -> Result<Vec<u32, A>, AllocError> {
+        let picks = self.picks(alloc, context)?;
+        if !F::is_reduced() {
+            return Ok(picks);
+        }
+        let first = first_pick(context, self, &picks)?;
+        match first {
+            Some(pick) => pick_alone(alloc, pick),
+            None => Ok(picks),
+        }
+    }
+
+    fn has_room(&self) -> bool {
+        if !F::is_reduced() {
+            return true;
+        }
+        let made = self.run.journal().len();
+        if made >= JOURNAL {
+            return false;
+        }
+        true
     }
 
     fn is_admitted(&self, alloc: A, filter: &F) -> Result<bool, AllocError> {

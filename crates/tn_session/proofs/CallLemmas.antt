@@ -1,6 +1,7 @@
 -- What the calls of a session give, of its state.
 use Rattle.std.proofs.Common.{◌≡◌, ◌∙◌, map, Bool, false, Option, Some, sym, ap, subst}
 use Rattle.std.specs.Option.{IsSomeAnd}
+use Rattle.std.specs.Arc.{arc_value}
 use Rattle.def_session.specs.State as definition
 use Rattle.tn_session.specs.Views.{state_seen, function_seen}
 use Rattle.tn_session.specs.Sessions.{SessionValue, session_seen, value_in, next_session}
@@ -16,4 +17,4 @@ where_there P is_spent c d is h =
 pub next_there : {A T : Type 0} (c d : State A) (r : definition.Session × T) (x : T)
     → r ≡ (state_seen d, x) → d.functions ≡ c.functions → next_session (session_seen c) r ≡ (Some (session_seen d), x)
 next_there c d r x gives same =
-    ap (next_session (session_seen c)) gives ∙ ap (λ v. (Some (record { functions = map function_seen v.items; state = state_seen d }), x)) (sym same)
+    ap (next_session (session_seen c)) gives ∙ ap (λ v. (Some (record { functions = map function_seen (arc_value v).items; state = state_seen d }), x)) (sym same)

@@ -1,11 +1,11 @@
 -- The arguments of commands, the newest command that has a function among its own, and how many functions a command matches.
-use Rattle.std.proofs.Common.{◌≡◌, ◌≢◌, ◌∙◌, ◌+◌, ◌<◌, ◌==◌, ◌||◌, ℕ, suc, Bool, true, false, if◌then◌else◌, List, [], ◌∷◌, length, get_or, take, map, Option, Some, None, refl, sym, ap, ap₂, arith}
+use Rattle.std.proofs.Common.{◌≡◌, ◌≢◌, ◌∙◌, ◌+◌, ◌<◌, ◌==◌, ◌||◌, ℕ, suc, Bool, true, false, if◌then◌else◌, List, [], ◌∷◌, length, get_or, take, map, reverse, Option, Some, None, refl, sym, ap, ap₂, arith}
 use Rattle.std.specs.List.{filter}
 use Rattle.std.specs.declared.cmp.Ordering.{Ordering}
 use Rattle.std.specs.declared.cmp.Ordering.TheVariants.{Less, Equal, Greater}
 use Rattle.std.specs.Ordering.{ordering_then, is_eq}
 use Rattle.std.proofs.lemmas.Bool.Decides.{nat_tests}
-use Rattle.std.proofs.lemmas.List.{take_more, map-append, length-append}
+use Rattle.std.proofs.lemmas.List.{take_more, map-append, length-append, reverse-append}
 use Rattle.std.proofs.lemmas.List.Elements.{filter-append}
 use Rattle.def_term.specs.Tree.{Tree, tuple, list, none, more}
 use Rattle.def_term.specs.Order.{tree_cmp, same}
@@ -134,6 +134,15 @@ newest_or false k ks c older = older
 pub by_newest : (ks : List Accepted) (c : Call) → setting_for ks c ≡ setting_of_command (newest_with ks c.mfa c.exported) c.named
 by_newest [] c = refl
 by_newest (k ∷ ks) c = newest_or (has_among k c.mfa c.exported) k ks c (by_newest ks c)
+
+-- the settings in the order of the commands
+pub reverse_mapped : {X Y : Type 0} (f : X → Y) (xs : List X) → reverse (map f (reverse xs)) ≡ map f xs
+reverse_mapped f [] = refl
+reverse_mapped f (x ∷ xs) =
+    ap (λ ys. reverse (map f ys)) (reverse-append (x ∷ []) xs)
+    ∙ ap reverse (map-append f (reverse xs) (x ∷ []))
+    ∙ reverse-append (map f (reverse xs)) (f x ∷ [])
+    ∙ ap (λ ys. f x ∷ ys) (reverse_mapped f xs)
 
 -- arguments that are no good are refused, whatever the others are
 pub options_refused : (o : Exports) (s : Session) (x : Option FunctionPattern) (spec : Tree) → function_set_if o s x None spec ≡ refuse s

@@ -1,5 +1,6 @@
 -- What the code's replies stand for.
 use Rattle.std.specs.Prelude.{◌≡◌, ℕ, Bool, ◌∷◌, map}
+use Rattle.std.specs.Arc.{arc_value}
 use Rattle.def_term.specs.Tree.{Tree, int}
 use Rattle.def_term.specs.Names.{word}
 use Rattle.def_spec.specs.Reading as reading
@@ -35,7 +36,7 @@ IsReplyTo faults.OutOfMemory t = ⊥
 
 -- what the session knows of the program
 abbrev pub opening_in : {A : Type 0} → State A → ℕ → Exports
-opening_in s n = record { functions = map function_seen s.functions.items; processes = n }
+opening_in s n = record { functions = map function_seen (arc_value s.functions).items; processes = n }
 
 -- a command was done: the definition's answer is this state with this reply
 abbrev pub IsDone : {A : Type 0} → State A → Tree → commands.CommandResult → Type 0

@@ -1,6 +1,7 @@
 -- What a session stands for, and what its calls give.
 use Rattle.std.specs.Prelude.{ℕ, List, Bool, map, Option, Some, None, if◌then◌else◌}
 use Rattle.std.specs.Option.{option_map}
+use Rattle.std.specs.Arc.{arc_value}
 use Rattle.def_term.specs.Names as names
 use Rattle.def_term.specs.Alive.{Alive}
 use Rattle.def_spec.specs.Flags.{Flags, FlagTable}
@@ -16,7 +17,7 @@ pub record SessionValue : Type 0 where
   pub state : definition.Session
 
 abbrev pub session_seen : {A : Type 0} → State A → SessionValue
-session_seen c = record { functions = map function_seen c.functions.items; state = state_seen c }
+session_seen c = record { functions = map function_seen (arc_value c.functions).items; state = state_seen c }
 
 -- what a session stands for; nothing once it was refused memory
 abbrev pub value_in : {A : Type 0} → Session A → Option SessionValue

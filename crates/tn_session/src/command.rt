@@ -195,8 +195,9 @@ impl<A: Allocator + Copy> State<A> {
         ensures value { (n : ℕ) → result ≡ matching_count (opening_in self.now n) (function_setting_seen setting.now) }
         ensures small { result < 2 ^ 63 }
     {
+        let functions = self.functions.as_slice();
         let mut count = 0;
-        for function in &self.functions {
+        for function in functions {
             if setting.has_among(&function.0, function.1) {
                 count += 1;
             }
@@ -210,7 +211,7 @@ impl<A: Allocator + Copy> State<A> {
         ensures functions { self.new.functions ≡ self.old.functions }
     {
         let count = self.match_count(&setting);
-        self.settings.set(&self.functions, setting)?;
+        self.settings.set(self.functions.as_slice(), setting)?;
         Ok(count_reply(count))
     }
 

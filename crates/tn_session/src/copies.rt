@@ -1,29 +1,14 @@
 // A session's state once more.
 ghost use Rattle.std.specs.Prelude.{◌≡◌, IfOk, map};
 ghost use Rattle.tn_session.specs.Sessions.{session_seen};
-ghost use Rattle.tn_session.specs.Views.{function_seen, function_setting_seen, process_marks_seen, setting_seen};
+ghost use Rattle.tn_session.specs.Views.{function_setting_seen, process_marks_seen, setting_seen};
 ghost use Rattle.tn_session.specs.Views.{settings_seen};
 
 use crate::shared_spec::SharedSpec;
 use crate::state::{Mark, State};
 use std::alloc::{AllocError, Allocator};
+use std::sync::Arc;
 use tn_index::{FunctionSetting, Setting, Settings};
-use tn_term::Mfa;
-
-/// The same functions, each with whether it is exported.
-fn copy_functions<A: Allocator + Copy>(
-    alloc: A,
-    functions: &Vec<(Mfa<A>, bool), A>,
-) -> Result<Vec<(Mfa<A>, bool), A>, AllocError>
-    ensures { IfOk result (λ v. map function_seen v.items ≡ map function_seen functions.now.items) }
-{
-    let mut copies = Vec::with_capacity(alloc, functions.len())?;
-    for function in functions {
-        let copy = function.0.copy_into(alloc)?;
-        copies.push((copy, function.1))?;
-    }
-    Ok(copies)
-}
 
 /// The same setting. Its specification has one owner more.
 fn share_setting<A: Allocator + Copy>(
@@ -100,14 +85,14 @@ fn copy_all_marks<A: Allocator + Copy>(
 }
 
 impl<A: Allocator + Copy> State<A> {
-    /// The same state once more. Its specifications have one owner more.
+    /// The same state once more. Its functions and specifications have one owner more.
     pub(crate) fn share(&self) -> Result<State<A>, AllocError>
         ensures { IfOk result (λ s. session_seen s ≡ session_seen self.now) }
     {
         Ok(State {
             alloc: self.alloc,
             phase: self.phase,
-            functions: copy_functions(self.alloc, &self.functions)?,
+            functions: Arc::try_clone(&self.functions)?,
             alive: self.alive,
             flags: self.flags,
             new_process_flags: self.new_process_flags,

@@ -18,7 +18,7 @@ pub struct Look<'a, A: Allocator> {
     pub(crate) state: &'a State<A>,
 }
 
-/// What the newest function command that covers a function sets, and whether it is local.
+/// What a function command sets, the newest that covers a function or any, and whether it is local.
 #[derive(Drop)]
 pub struct NewestSetting<'a, A: Allocator> {
     pub setting: Setting<&'a Spec<A>>,
@@ -39,13 +39,14 @@ fn borrow_setting<A: Allocator + Copy>(setting: &Setting<SharedSpec<A>>) -> Sett
 }
 
 impl<'a, A: Allocator + Copy> Look<'a, A> {
-    ghost use Rattle.std.specs.Prelude.{◌≡◌};
+    ghost use Rattle.std.specs.Prelude.{◌≡◌, length, reverse, slice_get};
     ghost use Rattle.std.specs.Option.{option_map};
     ghost use Rattle.def_session.specs.Session as session;
     ghost use Rattle.def_session.specs.State as definition;
     ghost use Rattle.tn_term.specs.Views.{alive_of, mfa_seen};
     ghost use Rattle.tn_flags.specs.Views.{call_seen, flags_of, table_of};
     ghost use Rattle.tn_session.specs.Looks.{look_seen, look_setting, is_live, newest_seen, newest_for, newest_among};
+    ghost use Rattle.tn_session.specs.Looks.{parts_of};
     ghost use Rattle.tn_session.specs.Views.{mark_kind_seen};
 
     /// Whether it was not destroyed.
@@ -113,6 +114,27 @@ impl<'a, A: Allocator + Copy> Look<'a, A> {
         ensures { look_setting result ≡ (look_seen self.now).receiving }
     {
         borrow_setting(&self.state.receiving)
+    }
+
+    /// How many function commands it accepted (`trace:function/4`).
+    pub fn setting_count(&self) -> usize
+        ensures { result ≡ length (look_seen self.now).functions }
+    {
+        self.state.settings.commands().len()
+    }
+
+    /// What the function command at a place sets, the oldest first (`trace:function/4`); None past them.
+    pub fn function_setting(&self, place: usize) -> Option<NewestSetting<'a, A>>
+        ensures { let fs = reverse (look_seen self.now).functions in
+            option_map newest_seen result ≡ option_map parts_of (slice_get fs place) }
+    {
+        match self.state.settings.commands().get(place) {
+            None => None,
+            Some(function_setting) => Some(NewestSetting {
+                setting: borrow_setting(&function_setting.setting),
+                local: function_setting.local,
+            }),
+        }
     }
 
     /// What the newest function command that has the function, exported or not, among its own sets

@@ -1,10 +1,12 @@
 // A session, as its users see it.
+ghost use Rattle.std.specs.Arc.{arc_value};
 
 use crate::look::Look;
 use crate::message::Message;
 use crate::room::Room;
 use crate::state::{Phase, State};
 use std::alloc::{AllocError, Allocator};
+use std::sync::Arc;
 use tn_flags::{Command, Event, FlagTable, Flags};
 use tn_index::{Setting, Settings};
 use tn_term::{Alive, Mfa, Term};
@@ -32,9 +34,9 @@ impl<A: Allocator + Copy> Session<A> {
     /// The session at its creation: live, without flags and settings of functions, with send and receive
     /// `true`, where these processes live. The functions are those of the program, each once, with whether
     /// it is exported (`trace:session_create/3`). It takes no memory.
-    pub fn created(alloc: A, functions: Vec<(Mfa<A>, bool), A>, alive: Alive) -> Session<A>
+    pub fn created(alloc: A, functions: Arc<Vec<(Mfa<A>, bool), A>, A>, alive: Alive) -> Session<A>
         ensures { value_in result ≡ Some (record {
-          functions = map function_seen functions.items;
+          functions = map function_seen (arc_value functions).items;
           state = new_session live (alive_of alive);
         }) }
     {
@@ -152,7 +154,7 @@ impl<A: Allocator + Copy> Session<A> {
     ghost use Rattle.std.specs.Prelude.{◌≡◌, IfOk, IsTrue};
     ghost use Rattle.tn_session.specs.Sessions.{value_in, processes_of};
 
-    /// The same session once more. The functions of the program are copied, the specifications have one owner more.
+    /// The same session once more. The functions of the program and the specifications have one owner more.
     ///
     /// # Errors
     ///

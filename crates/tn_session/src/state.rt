@@ -6,6 +6,7 @@ ghost use Rattle.tn_session.specs.Views.{state_seen};
 
 use crate::shared_spec::SharedSpec;
 use std::alloc::Allocator;
+use std::sync::Arc;
 use tn_flags::{FlagTable, Flags};
 use tn_index::{Setting, Settings};
 use tn_term::{Alive, FIRST_PID, Mfa};
@@ -37,7 +38,7 @@ pub(crate) struct State<A: Allocator> {
     pub alloc: A,
     pub phase: Phase,
     /// The functions of the program, each with whether it is exported.
-    pub functions: Vec<(Mfa<A>, bool), A>,
+    pub functions: Arc<Vec<(Mfa<A>, bool), A>, A>,
     pub alive: Alive,
     pub flags: FlagTable,
     /// Of new processes.

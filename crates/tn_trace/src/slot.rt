@@ -4,6 +4,7 @@ use crate::item::Item;
 use crate::reply::{badarg, created_reply};
 use crate::sink::MessageSink;
 use std::alloc::{AllocError, Allocator};
+use std::sync::Arc;
 use tn_flags::Command;
 use tn_script::Function;
 use tn_session::{EventText, Room, Session};
@@ -66,7 +67,8 @@ impl<A: Allocator + Copy, K: MessageSink<A> + Drop> Slot<A, K> {
         match command {
             Command::SessionCreate { session, .. } => {
                 let reply = created_reply(alloc, session)?;
-                let functions = visible_functions(alloc, functions)?;
+                let visible = visible_functions(alloc, functions)?;
+                let functions = Arc::new(alloc, visible)?;
                 self.session = Some(Session::created(alloc, functions, living));
                 Ok(reply)
             }

@@ -8,4 +8,4 @@ use Rattle.tn_explore.proofs.search.explore.Given as goal
 abbrev pub invariant-loop : goal.invariant-loop
 invariant-loop g l =
     (a : Query) → g.S.SearchState.is_of l.context l.fn.first a → g.S.SearchState.filters l.filter a → g.S.SearchState.journal l.fn.first ≡ moves a.program a.before →
-    Before g.S.SearchState.journal (g.S.SearchState.is_of l.context) a l.counter l.layer.states.items (answer_entries g.S.SearchState.kept_seen l.answers.entries) l.states
+    Before g.S.SearchState.journal (g.S.SearchState.is_of l.context) g.S.SearchState.leaves_out a l.counter l.layer.states.items (answer_entries g.S.SearchState.kept_seen l.answers.entries) l.states

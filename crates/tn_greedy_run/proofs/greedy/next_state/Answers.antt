@@ -23,7 +23,7 @@ loop-pick-preserved g c = λ a filters is_of.
       | then-contains+in_ok-after+else-is_some+in-None-1 w ↦
           not_found J I a c.args.state.now c.args.picks.now c.loop-pick.pick-index w.in_ok-after.after c.loop-pick-test.true (sym w.is_some.ensures ∙ w.if-is_some.false) (w.in_ok-after.ensures a filters is_of) before
       | else-contains w ↦ passed_over J I a c.args.state.now c.args.picks.now c.loop-pick.pick-index c.loop-pick-test.true
-          (unmoving J I a c.args.state.now c.in_ok-moving.moving.items _ (c.in_ok-moving.ensures c.args.context.now) is_of (ap (list_any _) (sym c.deref.ensures.value) ∙ sym c.contains.ensures.value ∙ w.if-contains.false)) before
+          (unmoving J I a c.args.state.now c.in_ok-moving.moving.items _ c.in_ok-moving.ensures is_of (ap (list_any _) (sym c.deref.ensures.value) ∙ sym c.contains.ensures.value ∙ w.if-contains.false)) before
     ]
 
 pub returns : goal.returns

@@ -12,7 +12,7 @@ loop-pick-preserved g c = λ a is_of.
     let picks = c.args.picks.now in
     let i = c.loop-pick.pick-index in
     let old = c.loop-pick.moving.items in
-    let all = subst (HasAllMoves J (g.S.SearchState.is_of c.args.context.now) s) (sym c.deref.ensures.value) (c.in_ok-all.ensures c.args.context.now) in
+    let all = subst (HasAllMoves J (g.S.SearchState.is_of c.args.context.now) s) (sym c.deref.ensures.value) c.in_ok-all.ensures in
     let moves = c.in_ok-is_moving.ensures a all is_of in
     let so_far = c.loop-pick.invariant a is_of in
     elim c.if-branch.branch [

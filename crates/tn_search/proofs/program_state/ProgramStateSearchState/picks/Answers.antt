@@ -1,13 +1,15 @@
 use Rattle.std.proofs.Common.{◌≡◌, ◌∙◌, length, ap, arith}
 use Rattle.std.proofs.lemmas.Result.{IfOk-weaker}
-use Rattle.tn_search.specs.Probes.{HasMovesAmong}
+use Rattle.std.specs.List.{filter}
+use Rattle.tn_program.specs.Views.{program_of}
+use Rattle.tn_search.specs.ReadyPicks.{may_move_by}
 use Rattle.tn_search.proofs.Steps.{all_moves, no_moves}
 use Rattle.tn_search.proofs.program_state.ProgramStateSearchState.picks.Goals as goal
 
 pub returns-then-made-ge-JOURNAL : goal.returns-then-made-ge-JOURNAL
-returns-then-made-ge-JOURNAL g c = λ x a is pick moving.
+returns-then-made-ge-JOURNAL g c = λ a is pick moving.
     let long : length c.journal-made.result.now ≡ length c.args.self.now.run.journal.items = ap length c.journal-made.ensures in
-    no_moves g.K.MessageSink.keeps g.K.SearchSink.is_by_process x c.args.self.now a is c.new.result.items pick (omega (arith, c.if-made-ge-JOURNAL.true)) moving
+    no_moves g.K.MessageSink.keeps g.K.SearchSink.is_by_process c.args.context.now c.args.self.now a is c.new.result.items pick (omega (arith, c.if-made-ge-JOURNAL.true)) moving
 
 pub returns : goal.returns
 returns g c =
@@ -15,6 +17,7 @@ returns g c =
     let b = g.K.SearchSink.is_by_process in
     let s = c.args.self.now in
     let long : length c.journal-made.result.now ≡ length s.run.journal.items = ap length c.journal-made.ensures in
-    IfOk-weaker c.moving_picks.result (λ v. HasMovesAmong c.node.result.now c.deref.result.now v.items) _
-    (λ v among x a is pick moving. all_moves Keeps b x s a is c.node.result.now c.deref.result.now v.items pick c.node.ensures (c.deref.ensures.value ∙ c.in_ok-pass.ensures) (omega (arith, c.if-made-ge-JOURNAL.false)) among moving)
-    c.moving_picks.ensures
+    let x = c.args.context.now in
+    IfOk-weaker c.ready_picks.result (λ v. v.items ≡ filter (may_move_by (program_of x) c.node.result.now) c.deref.result.now) _
+    (λ v those a is pick moving. all_moves Keeps b x s a is c.node.result.now c.deref.result.now v.items pick c.node.ensures (c.deref.ensures.value ∙ c.in_ok-pass.ensures) (omega (arith, c.if-made-ge-JOURNAL.false)) those moving)
+    c.ready_picks.ensures

@@ -1,4 +1,5 @@
 use Rattle.std.proofs.Common.{Some, map}
+use Rattle.std.specs.Arc.{arc_value}
 use Rattle.def_session.specs.State.{live}
 use Rattle.def_session.specs.Settings.{plain}
 use Rattle.tn_term.specs.Views.{alive_of}
@@ -7,7 +8,7 @@ use Rattle.tn_session.proofs.session.Session.created.Goals as goal
 
 pub returns : goal.returns
 returns g c = λ i. Some (record {
-  functions = map function_seen c.args.functions.items;
+  functions = map function_seen (arc_value c.args.functions).items;
   state = record {
     phase = live;
     alive = alive_of c.args.alive;

@@ -7,5 +7,5 @@ use Rattle.tn_session.proofs.state.State.match_count.Given as goal
 abbrev pub invariant-loop-function : goal.invariant-loop-function
 invariant-loop-function g l = record {
   within : l.count ≤ l.function-index;
-  counted : l.count ≡ length (filter (λ f. has_among (function_setting_seen l.setting) f.0 f.1) (map function_seen (take l.function-index l.self.functions.items)));
+  counted : l.count ≡ length (filter (λ f. has_among (function_setting_seen l.setting) f.0 f.1) (map function_seen (take l.function-index l.functions)));
 }
