@@ -75,7 +75,7 @@ _tracenode() {
             spec) words='--list --for --me --caller --json --file --fun -h --help' ;;
             fun) words='--for --pretty -h --help' ;;
             explore) words='--after --control --order --session --summary --json --shows --always --never --sometimes'
-                words+=' --random --seed --max-states --max-output -o --output -h --help' ;;
+                words+=' --reduce --random --seed --max-states --max-output -o --output -h --help' ;;
             compare) words='--trace --prefix --after --control --order --session --json'
                 words+=' --max-states --max-output -o --output -h --help' ;;
             serve) words='-h --help' ;;

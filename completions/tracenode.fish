@@ -125,6 +125,7 @@ complete -c tracenode -n '__fish_seen_subcommand_from explore' -l shows -x -d 'A
 complete -c tracenode -n '__fish_seen_subcommand_from explore' -l always -x -d 'A trace message that each listing must show'
 complete -c tracenode -n '__fish_seen_subcommand_from explore' -l never -x -d 'A trace message that no listing may show'
 complete -c tracenode -n '__fish_seen_subcommand_from explore' -l sometimes -x -d 'A trace message that some listings must show'
+complete -c tracenode -n '__fish_seen_subcommand_from explore' -l reduce -d 'Meet fewer states for the same listings'
 complete -c tracenode -n '__fish_seen_subcommand_from explore' -l random -x -d 'How many random runs to make'
 complete -c tracenode -n '__fish_seen_subcommand_from explore' -l seed -x -d 'The seed of the random runs'
 complete -c tracenode -n '__fish_seen_subcommand_from explore' -l max-states -x -d 'How many states may be met'

@@ -59,7 +59,7 @@ def arguments_at(body, at):
 def calls_of(each):
     """The calls of the public function: for each what it is made on, and its arguments."""
     name = public_function(each)[1].rpartition("::")[2]
-    for match in re.finditer(rf"(?:([\w.]+)\.|(?<![\w.])(?:\w+::)*(?:<[^>]*>::)?){name}\(", each.body):
+    for match in re.finditer(rf"(?:([\w.]+)\.|(?<![\w.])(?:\w+::)*(?:<[^>]*>::)?){name}(?:::<[^>]*>)?\(", each.body):
         yield [match[1] or "", *arguments_at(each.body, match.end() - 1)]
 
 

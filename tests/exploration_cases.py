@@ -55,6 +55,12 @@ def listing(script, journal, session):
     return found[0] if moved == journal and len(found) == 1 else None
 
 
+def gives(script, journal, text, words):
+    """Whether a journal gives a listing, in the order that the words ask for, and nothing moves after it."""
+    seen = listing(script, journal, text.split()[2])
+    return seen and (seen if "total" in words else by_process(seen)) == text
+
+
 def counts():
     """How many states and listings there are, by an independent search; each journal gives its listing, and nothing moves after it."""
     for name, words, states, listings in COUNTS:
@@ -69,10 +75,28 @@ def counts():
             check(f"{title}: shorter journals come first", journals == sorted(journals), journals)
             check(f"{title}: no listing comes twice", len({text for _, text in entries}) == len(entries), len(entries))
             for journal, text in entries[:40]:
-                session = text.split()[2]
-                seen = listing(script, journal, session)
-                seen = seen and (seen if "total" in words else by_process(seen))
-                check(f"{title}: the journal {journal}", seen == text, seen)
+                check(f"{title}: the journal {journal}", gives(script, journal, text, words), text)
+
+
+def reductions():
+    """With `--reduce` the listings are the same, each by a journal that is as long, and the words too; of the pool fewer states are met."""
+    asking = [word for text, _ in PATTERNS for word in ("--shows", text)]
+    for name, words, states, _ in COUNTS:
+        script, options = script_of(name), shlex.split(words)
+        plain, ran = (run(["explore", *options, *form], script) for form in ([], ["--reduce"]))
+        [(entries, _)], [(found, end)] = (searches(each.stdout.decode()) for each in (plain, ran))
+        title = f"explore --reduce {words} of {name}"
+        lengths = [sorted((text, len(journal.split())) for journal, text in each) for each in (entries, found)]
+        check(f"{title}: the listings", lengths[0] == lengths[1] and ran.returncode == 0 and not ran.stderr, found)
+        fewer = int(end[1]) < states if name == "pool" else int(end[1]) <= states
+        check(f"{title}: the states", fewer, end[0])
+        for journal, text in found[:10]:
+            check(f"{title}: the journal {journal}", gives(script, journal, text, words), text)
+        plain, ran = (run(["explore", *options, *asking, *form], script) for form in ([], ["--reduce"]))
+        answers = [WORD_LINE.findall(each.stdout.decode()) for each in (plain, ran)]
+        check(f"{title}: the words", answers[0] == answers[1] and len(answers[0]) == len(PATTERNS), answers[1])
+    ran = run(["explore", "--reduce", "--random", "1"], SEND_HI)
+    check("explore --reduce --random 1", ran.returncode == 2 and not ran.stdout and ran.stderr, ran)
 
 
 def moved(script, picks):

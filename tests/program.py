@@ -88,6 +88,7 @@ SUBJECTS = {
         exploration_cases.bad_explorations,
         exploration_cases.exploration_json,
         exploration_cases.random_runs,
+        exploration_cases.reductions,
         exploration_cases.summaries,
     ),
     "comparison": (

@@ -2,16 +2,21 @@
 ghost use Rattle.std.specs.Prelude.{◌≡◌, IfOk};
 ghost use Rattle.def_run.specs.Run.{moves};
 ghost use Rattle.tn_explore.specs.Query.{Query};
-ghost use Rattle.complete_explore.specs.Explorations.{ExploreAlike};
+ghost use Rattle.tn_explore.specs.SearchStates.{FollowsAllBy};
+ghost use Rattle.complete_explore.specs.Explorations.{ExploreAlike, IfBoth};
 
 use std::alloc::{AllocError, Allocator};
-use tn_explore::{Exploration, SearchState};
+use tn_explore::{Exploration, Reduction, SearchState};
 
 /// What a search answers, or refused memory.
-type SearchResult<A, S> = Result<Exploration<A, <S as SearchState<A>>::Observation>, AllocError>;
+type SearchResult<A, S> = Result<
+    Option<Exploration<A, <S as SearchState<A>>::Observation>>,
+    AllocError,
+>;
 
-/// `tn_explore::explore` has one answer where all states are tried: the same is kept, with journals that are as long.
-pub fn explore<A: Allocator + Copy, S: SearchState<A>>(
+/// `tn_explore::explore` has one answer where all states are tried and there is one: the same is kept, with journals
+/// that are as long.
+pub fn explore<A: Allocator + Copy, S: SearchState<A>, R: Reduction<A, S>>(
     alloc: A,
     contexts: (&S::Context, &S::Context),
     filter: &S::Filter,
@@ -19,12 +24,13 @@ pub fn explore<A: Allocator + Copy, S: SearchState<A>>(
     other: S,
     max_states: usize,
 ) -> (SearchResult<A, S>, SearchResult<A, S>)
-    ensures { IfOk result.0 (λ e. IfOk result.1 (λ f. (a : Query) →
+    ensures { IfOk result.0 (λ o. IfOk result.1 (λ r. IfBoth o r (λ e f. (a : Query) →
         S.is_of contexts.entry.0.now one a → S.is_of contexts.entry.1.now other a → S.filters filter.now a →
-        S.journal one ≡ moves a.program a.before → S.journal other ≡ moves a.program a.before →
-        ExploreAlike S.kept_seen e f)) }
+        FollowsAllBy R.leaves_out a → S.journal one ≡ moves a.program a.before →
+        S.journal other ≡ moves a.program a.before →
+        ExploreAlike S.kept_seen e f))) }
 {
-    let first = tn_explore::explore(alloc, contexts.0, filter, one, max_states);
-    let second = tn_explore::explore(alloc, contexts.1, filter, other, max_states);
+    let first = tn_explore::explore::<A, S, R>(alloc, contexts.0, filter, one, max_states);
+    let second = tn_explore::explore::<A, S, R>(alloc, contexts.1, filter, other, max_states);
     (first, second)
 }

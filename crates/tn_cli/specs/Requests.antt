@@ -227,7 +227,7 @@ abbrev pub LacksRandomNumber : ArgMatches → Type 0
 LacksRandomNumber m =
     IsSomeAnd (argument m (codes "random")) (λ text. ¬ (IsPlainNumber text)) ⊎ IsSomeAnd (argument m (codes "seed")) (λ text. ¬ (IsPlainNumber text))
 
--- the script, the first moves, what `--order` and `--session` name, the patterns, the number of `--max-states`, the random runs, and the form
+-- the script, the first moves, what `--order` and `--session` name, the patterns, the number of `--max-states`, whether `--reduce` is given, the random runs, and the form
 abbrev pub IsExplorationOf : ArgMatches → ExploreArgs → Type 0
 IsExplorationOf m x =
     IsSourceNamed (argument m (codes "script")) x.script
@@ -240,6 +240,7 @@ IsExplorationOf m x =
     × (words_of x.sometimes.now ≡ texts_given m (codes "sometimes"))
     × (x.trace ≡ None)
     × IsGiven 1 4294967295 (argument m (codes "max-states")) x.max_states
+    × (x.reduces ≡ is_given m (codes "reduce"))
     × AreRandomRunsOf m x.random
     × (x.form ≡ listings_form_given m)
 
@@ -261,6 +262,7 @@ IsComparisonOf m x =
     × IsTextOf (argument m (codes "trace")) x.trace
     × (x.goes_on ≡ is_given m (codes "prefix"))
     × IsGiven 1 4294967295 (argument m (codes "max-states")) x.max_states
+    × (x.reduces ≡ false)
     × (x.random ≡ None)
     × (x.form ≡ form_given (is_given m (codes "json")))
 

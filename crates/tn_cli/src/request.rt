@@ -445,6 +445,7 @@ fn exploration<'s, 'a: 's>(matches: &'s ArgMatches<'a>) -> Result<Request<'s>, B
         trace: None,
         goes_on: false,
         max_states,
+        reduces: flag(matches, "reduce"),
         random,
         form: listings_form(matches),
     }))
@@ -468,6 +469,7 @@ fn comparison<'s, 'a: 's>(matches: &'s ArgMatches<'a>) -> Result<Request<'s>, Ba
         trace: matches.get_str("trace"),
         goes_on: flag(matches, "prefix"),
         max_states,
+        reduces: false,
         random: None,
         form: answer_form(matches),
     }))

@@ -51,7 +51,7 @@ places_of asked p = places_from asked 0 (creations p.commands)
 abbrev pub IsSearchText : ExploreRequest → Program → (before places text : List ℕ) → (settled unmet : Bool) → Type 0
 IsSearchText q p before places text settled unmet =
     (answer : List ℕ) × (departure : Option (List ℕ))
-    × IsAnswerBy q.random (form_seen q.form) (elements_at places (creations p.commands)) (search_question_seen q.question) (is_by_process q.order) p before places q.max_states (record { text = answer; settled = settled; unmet = unmet }) departure
+    × IsAnswerBy q.random (form_seen q.form) (elements_at places (creations p.commands)) (search_question_seen q.question) (is_by_process q.order) q.reduces p before places q.max_states (record { text = answer; settled = settled; unmet = unmet }) departure
     × (text ≡ answer ++ departure_text (form_seen q.form) (elements_at places (creations p.commands)) p departure)
 
 -- the texts of searches, each about the sessions at some places, one after another, whether all of them are settled, and whether one is unmet

@@ -52,12 +52,12 @@ pub record IsTextOfExploration {A : Type 0} (form : AnswerForm) (ss : List (Name
   pub written : t ≡ search_text_of form ss q (answer_entries kept_seen e.answers.entries) e.states e.is_complete
   pub departs : departure ≡ departure_of q (answer_entries kept_seen e.answers.entries)
 
--- that of a search through all schedules that begin with a journal
-pub record IsTextOfSearch (form : AnswerForm) (ss : List (Name × Name)) (q : SearchQuestion) (b : Bool) (p : Program) (before places : List ℕ) (max_states : ℕ) (t : SearchText) (departure : Option (List ℕ)) : Type 0 where
+-- that of a search through all schedules that begin with a journal; `left` says whether it may leave out picks
+pub record IsTextOfSearch (form : AnswerForm) (ss : List (Name × Name)) (q : SearchQuestion) (b left : Bool) (p : Program) (before places : List ℕ) (max_states : ℕ) (t : SearchText) (departure : Option (List ℕ)) : Type 0 where
   pub entries : List RestEntry
   pub states : ℕ
   pub whole : Bool
-  pub search : Explores (query_of (admits_for q) b p before places) entries max_states states whole
+  pub search : Explores left (query_of (admits_for q) b p before places) entries max_states states whole
   pub written : t ≡ search_text_of form ss q entries states whole
   pub departs : departure ≡ departure_of q entries
 
@@ -82,7 +82,7 @@ pub record IsRunBySearch (a : TraceQuestion) (p : Program) (before places : List
   pub entries : List RestEntry
   pub states : ℕ
   pub whole : Bool
-  pub search : Explores (query_of (begins_trace a.messages) false p before places) entries max_states states whole
+  pub search : Explores false (query_of (begins_trace a.messages) false p before places) entries max_states states whole
   pub first : o ≡ run_of_match (possible_by a entries) states
 
 -- where the greedy run doesn't show the trace, a search goes through all schedules
@@ -107,7 +107,7 @@ pub record IsTextAfter (form : AnswerForm) (ss : List (Name × Name)) (a : Trace
   pub entries : List RestEntry
   pub states : ℕ
   pub whole : Bool
-  pub search : Explores (query_of (begins_trace a.messages) true p run.0 places) entries max_states states whole
+  pub search : Explores false (query_of (begins_trace a.messages) true p run.0 places) entries max_states states whole
   pub written : o ≡ text_with_run form ss a entries run.1 false
 
 -- that after a run; without one there is none
@@ -133,13 +133,13 @@ IsTextBefore form ss p before places max_states None o = o ≡ None
 IsTextBefore form ss p before places max_states (Some a) o = IsTextInOrder form ss a p before places max_states o
 
 -- where there is none, the search goes through all schedules in the order that is asked for
-abbrev pub IsTextElse : AnswerForm → List (Name × Name) → SearchQuestion → Bool → Program → (before places : List ℕ) → ℕ → Option SearchText → SearchText → Option (List ℕ) → Type 0
-IsTextElse form ss q b p before places max_states (Some u) t departure = (t ≡ u) × (departure ≡ None)
-IsTextElse form ss q b p before places max_states None t departure = IsTextOfSearch form ss q b p before places max_states t departure
+abbrev pub IsTextElse : AnswerForm → List (Name × Name) → SearchQuestion → (b left : Bool) → Program → (before places : List ℕ) → ℕ → Option SearchText → SearchText → Option (List ℕ) → Type 0
+IsTextElse form ss q b left p before places max_states (Some u) t departure = (t ≡ u) × (departure ≡ None)
+IsTextElse form ss q b left p before places max_states None t departure = IsTextOfSearch form ss q b left p before places max_states t departure
 
-abbrev pub IsAnswerText : AnswerForm → List (Name × Name) → SearchQuestion → Bool → Program → (before places : List ℕ) → ℕ → SearchText → Option (List ℕ) → Type 0
-IsAnswerText form ss q b p before places max_states t departure =
-    (o : Option SearchText) × IsTextBefore form ss p before places max_states (trace_by_process q b) o × IsTextElse form ss q b p before places max_states o t departure
+abbrev pub IsAnswerText : AnswerForm → List (Name × Name) → SearchQuestion → (b left : Bool) → Program → (before places : List ℕ) → ℕ → SearchText → Option (List ℕ) → Type 0
+IsAnswerText form ss q b left p before places max_states t departure =
+    (o : Option SearchText) × IsTextBefore form ss p before places max_states (trace_by_process q b) o × IsTextElse form ss q b left p before places max_states o t departure
 
 -- ---- random runs
 
@@ -150,6 +150,6 @@ pub record IsTextOfRandomRuns (r : RandomRuns) (form : AnswerForm) (ss : List (N
   pub departs : departure ≡ departure_of q (random_entries_after b p before places r.runs r.seed max_states)
 
 -- they answer where they are asked for, and all schedules else
-abbrev pub IsAnswerBy : Option RandomRuns → AnswerForm → List (Name × Name) → SearchQuestion → Bool → Program → (before places : List ℕ) → ℕ → SearchText → Option (List ℕ) → Type 0
-IsAnswerBy None form ss q b p before places max_states t departure = IsAnswerText form ss q b p before places max_states t departure
-IsAnswerBy (Some r) form ss q b p before places max_states t departure = IsTextOfRandomRuns r form ss q b p before places max_states t departure
+abbrev pub IsAnswerBy : Option RandomRuns → AnswerForm → List (Name × Name) → SearchQuestion → (b left : Bool) → Program → (before places : List ℕ) → ℕ → SearchText → Option (List ℕ) → Type 0
+IsAnswerBy None form ss q b left p before places max_states t departure = IsAnswerText form ss q b left p before places max_states t departure
+IsAnswerBy (Some r) form ss q b left p before places max_states t departure = IsTextOfRandomRuns r form ss q b p before places max_states t departure

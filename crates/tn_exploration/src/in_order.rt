@@ -51,7 +51,7 @@ fn run_among<A: Allocator + Copy>(
     }))
 }
 
-/// The first run that a search in total order finds for the trace.
+/// The first run that a search in total order finds for the trace, which leaves out no pick.
 fn run_by_search<A: Allocator + Copy>(
     alloc: A,
     program: &Program<A>,
@@ -59,7 +59,7 @@ fn run_by_search<A: Allocator + Copy>(
     plan: &SearchPlan<'_>,
 ) -> Result<Option<RunInOrder<A>>, AllocError>
     ensures { let a = trace_question_seen trace.now in let p = program_of program.now in let s = plan.now in
-        is_by_process s.order ≡ false → IfOk result (λ o.
+        is_by_process s.order ≡ false → s.reduces ≡ false → IfOk result (λ o.
         IsRunBySearch a p s.before.now s.places.now s.max_states (option_map run_in_order_seen o)) }
 {
     let exploration = explore_program(alloc, program, trace, plan)?;
@@ -81,6 +81,7 @@ fn run_in_order<A: Allocator + Copy>(
         order: ListingOrder::Total,
         places: plan.places,
         max_states: plan.max_states,
+        reduces: false,
     };
     let greedy = greedy_program(alloc, program, trace, &plan)?;
     let run = run_among(alloc, trace, &greedy)?;
@@ -138,6 +139,7 @@ pub(crate) fn answer_in_order<A: Allocator + Copy>(
         order: ListingOrder::ByProcess,
         places: plan.places,
         max_states: plan.max_states,
+        reduces: false,
     };
     let after = explore_program(alloc, program, trace, &plan)?;
     let exploration = Exploration {

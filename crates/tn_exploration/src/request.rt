@@ -27,6 +27,8 @@ pub struct ExploreRequest<'a> {
     pub question: SearchQuestion<'a, Global>,
     /// How many states may be met before it ends.
     pub max_states: usize,
+    /// Whether the search leaves out picks that others go before which are independent of all.
+    pub reduces: bool,
     /// The random runs that are made in place of the search, where some are.
     pub random: Option<RandomRuns>,
     /// The form of what is written.

@@ -109,8 +109,8 @@ fn answer_by_search<A: Allocator + Copy>(
 ) -> Result<AnswerWithDeparture<A>, AllocError>
     ensures { let k = task.now in let plan = k.plan.now in let b = is_by_process plan.order in
         let q = search_question_seen k.question.now in let ss = map session_name_seen k.names.now in
-        IfOk result (λ a. IsTextOfSearch (form_seen k.form) ss q b (program_of program.now) plan.before.now
-        plan.places.now plan.max_states (search_text_seen a.answer) (departure_seen a.departure)) }
+        IfOk result (λ a. IsTextOfSearch (form_seen k.form) ss q b plan.reduces (program_of program.now)
+        plan.before.now plan.places.now plan.max_states (search_text_seen a.answer) (departure_seen a.departure)) }
 {
     let exploration = explore_for(alloc, program, task.question, task.plan)?;
     answer_from(alloc, task, &exploration)
@@ -124,7 +124,7 @@ fn answer_of<A: Allocator + Copy>(
 ) -> Result<AnswerWithDeparture<A>, AllocError>
     ensures { let k = task.now in let plan = k.plan.now in let b = is_by_process plan.order in
         let q = search_question_seen k.question.now in let ss = map session_name_seen k.names.now in
-        IfOk result (λ a. IsAnswerText (form_seen k.form) ss q b (program_of program.now) plan.before.now
+        IfOk result (λ a. IsAnswerText (form_seen k.form) ss q b plan.reduces (program_of program.now) plan.before.now
         plan.places.now plan.max_states (search_text_seen a.answer) (departure_seen a.departure)) }
 {
     if let Some(answer) = answer_before(alloc, program, task)? {
@@ -161,8 +161,8 @@ fn answer_by<A: Allocator + Copy>(
 ) -> Result<AnswerWithDeparture<A>, AllocError>
     ensures { let k = task.now in let plan = k.plan.now in let b = is_by_process plan.order in
         let q = search_question_seen k.question.now in let ss = map session_name_seen k.names.now in
-        IfOk result (λ a. IsAnswerBy random (form_seen k.form) ss q b (program_of program.now) plan.before.now
-        plan.places.now plan.max_states (search_text_seen a.answer) (departure_seen a.departure)) }
+        IfOk result (λ a. IsAnswerBy random (form_seen k.form) ss q b plan.reduces (program_of program.now)
+        plan.before.now plan.places.now plan.max_states (search_text_seen a.answer) (departure_seen a.departure)) }
 {
     match random {
         None => answer_of(alloc, program, task),
@@ -188,6 +188,7 @@ fn put_search<A: Allocator + Copy>(
         order: request.order,
         places,
         max_states: request.max_states,
+        reduces: request.reduces,
     };
     let task = SearchTask {
         names: &names,

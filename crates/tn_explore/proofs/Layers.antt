@@ -1,11 +1,13 @@
 -- A state that is the same as one of a layer, and states that are added.
-use Rattle.std.proofs.Common.{◌≡◌, ◌<◌, length, get_or, inl, ℕ, List, [], ◌∷◌, ◌++◌, map, Bool, true, refl, sym, subst, append-nil}
-use Rattle.std.specs.Prelude.{IsTrue}
+use Rattle.std.proofs.Common.{◌≡◌, ◌<◌, length, get_or, inl, inr, ℕ, List, [], ◌∷◌, ◌++◌, map, Bool, true, false, refl, ap, arith, sym, subst, append-nil}
+use Rattle.std.specs.Prelude.{IsTrue, Some, slice_get}
+use Rattle.std.specs.Option.{unwrap_or}
 use Rattle.def_explore.proofs.Lists.{one_after, each_both}
 use Rattle.def_explore.proofs.Alike.{alike_same}
-use Rattle.tn_explore.specs.Query.{Query, AlikeFor, HasStateFor}
-use Rattle.tn_explore.specs.SearchStates.{AreSame}
-use Rattle.tn_explore.specs.Searches.{IsAt, AreAt, HasSame, AddsState}
+use Rattle.def_run.specs.Run.{moves}
+use Rattle.tn_explore.specs.Query.{Query, AlikeFor, HasStateFor, HasJournalRoom}
+use Rattle.tn_explore.specs.SearchStates.{AreSame, HasRoom}
+use Rattle.tn_explore.specs.Searches.{IsAt, AreAt, HasSame, AddsState, LayerHasRoom}
 use Rattle.tn_explore.proofs.Lists.{one_at, each_at, one_mapped}
 
 module _ {S : Type 0} (Journal : S → List ℕ) (IsOf : S → Query → Type 0) where
@@ -27,3 +29,14 @@ module _ {S : Type 0} (Journal : S → List ℕ) (IsOf : S → Query → Type 0)
     has = subst (λ xs. HasStateFor a (map Journal xs) (Journal s)) (sym longer)
         (one_mapped (AlikeFor a (Journal s)) Journal (ss ++ s ∷ []) (one_after (λ u. AlikeFor a (Journal s) (Journal u)) ss (s ∷ []) (inl (alike_same a.question a.sessions a.program (Journal s) (Journal s) refl))));
   }
+
+  -- a layer has room where its first state has
+  pub room_at : (leaves_out : Bool) (ss : List S) (s : S) → Some s ≡ slice_get ss 0 → (b : Bool) → HasRoom Journal IsOf leaves_out s b → LayerHasRoom Journal IsOf leaves_out ss b
+  room_at leaves_out ss s is false room = room
+  room_at leaves_out [] s is true room = λ out a depth at. inl refl
+  room_at leaves_out (x ∷ xs) s is true room = λ out a depth at.
+      let here : IsAt Journal IsOf a depth s = subst (IsAt Journal IsOf a depth) (sym (ap (λ o. unwrap_or o s) is)) at.0 in
+      let left : HasJournalRoom a (Journal s) = room out a here.is_of in
+      let moved : length (moves a.program (Journal s)) ≡ length (Journal s) = ap length here.from.from.moved in
+      let long : length (Journal s) ≡ depth = here.long in
+      inr (omega arith)

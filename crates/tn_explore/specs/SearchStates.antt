@@ -1,10 +1,10 @@
 -- What is promised of a state of the search: a node with its sessions and what is kept of their messages, after a journal.
 -- Depends on what is asked.
-use Rattle.std.specs.Prelude.{◌≡◌, ℕ, Bool, true, false, List, [], ◌∷◌, ◌++◌, IsTrue}
+use Rattle.std.specs.Prelude.{◌≡◌, ◌⊎◌, ℕ, Bool, true, false, List, [], ◌∷◌, ◌++◌, IsTrue}
 use Rattle.std.specs.List.{Contains}
 use Rattle.def_run.specs.Laws.{IsIdleAfter}
 use Rattle.def_explore.specs.Rests.{IsMovingAfter, KeptMessages}
-use Rattle.tn_explore.specs.Query.{Query, AlikeFor, kept_for}
+use Rattle.tn_explore.specs.Query.{Query, AlikeFor, AreFirstFor, HasJournalRoom, kept_for}
 
 -- the copy is the same state
 abbrev pub IsCopy : {S : Type 0} → (S → List ℕ) → (S → Query → Type 0) → S → S → Type 0
@@ -19,8 +19,35 @@ abbrev pub AdvancesState : {S : Type 0} → (S → List ℕ) → (S → Query �
 AdvancesState Journal IsOf pick old new moved = (a : Query) → IsOf old a → StepGives Journal IsOf a (Journal old) pick new moved
 
 -- every other pick is idle
+abbrev pub HaveAllMoves : Query → (journal picks : List ℕ) → Type 0
+HaveAllMoves a journal picks = (pick : ℕ) → IsMovingAfter a.program journal pick → Contains picks pick
+
+-- of the state
 abbrev pub HasAllMoves : {S : Type 0} → (S → List ℕ) → (S → Query → Type 0) → S → List ℕ → Type 0
-HasAllMoves Journal IsOf s picks = (a : Query) → IsOf s a → (pick : ℕ) → IsMovingAfter a.program (Journal s) pick → Contains picks pick
+HasAllMoves Journal IsOf s picks = (a : Query) → IsOf s a → HaveAllMoves a (Journal s) picks
+
+-- every other pick is idle; or, where some are left out, perhaps the picks are independent of all others
+abbrev pub AreEnough : Bool → Query → (journal picks : List ℕ) → Type 0
+AreEnough false a journal picks = HaveAllMoves a journal picks
+AreEnough true a journal picks = HaveAllMoves a journal picks ⊎ AreFirstFor a journal picks
+
+-- where picks are left out every run is followed
+abbrev pub FollowsAllBy : Bool → Query → Type 0
+FollowsAllBy leaves_out a = leaves_out ≡ true → (kept : KeptMessages) → a.admits kept ≡ true
+
+-- picks are left out, and this one is independent of all others after the state
+pub record LeavesOutOthers {S : Type 0} (Journal : S → List ℕ) (IsOf : S → Query → Type 0) (leaves_out : Bool) (s : S) (pick : ℕ) : Type 0 where
+  pub left : leaves_out ≡ true
+  pub first : (a : Query) → IsOf s a → FollowsAllBy leaves_out a → AreFirstFor a (Journal s) (pick ∷ [])
+
+-- the picks that are tried after the state
+abbrev pub HasEnoughPicks : {S : Type 0} → (S → List ℕ) → (S → Query → Type 0) → Bool → S → List ℕ → Type 0
+HasEnoughPicks Journal IsOf leaves_out s picks = (a : Query) → IsOf s a → FollowsAllBy leaves_out a → AreEnough leaves_out a (Journal s) picks
+
+-- its journal has room, or picks are left out and it may have none
+abbrev pub HasRoom : {S : Type 0} → (S → List ℕ) → (S → Query → Type 0) → Bool → S → Bool → Type 0
+HasRoom Journal IsOf leaves_out s true = leaves_out ≡ true → (a : Query) → IsOf s a → HasJournalRoom a (Journal s)
+HasRoom Journal IsOf leaves_out s false = leaves_out ≡ true
 
 -- both are the same state
 abbrev pub AreSame : {S : Type 0} → (S → List ℕ) → (S → Query → Type 0) → S → S → Bool → Type 0

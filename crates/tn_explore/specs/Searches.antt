@@ -1,14 +1,15 @@
 -- What a search has answered, and what it has tried.
 -- Depends on the states of a search.
-use Rattle.std.specs.Prelude.{◌≡◌, ◌≤◌, ◌+◌, ◌⊎◌, ℕ, Bool, false, List, [], ◌∷◌, ◌++◌, length, min, IsTrue, map, All}
+use Rattle.std.specs.Prelude.{◌≡◌, ◌<◌, ◌≤◌, ◌+◌, ◌⊎◌, ℕ, Bool, true, false, List, [], ◌∷◌, ◌++◌, length, min, IsTrue, map, All}
 use Rattle.std.specs.declared.vec.Vec.{Vec}
 use Rattle.std.below.core.specs.declared.int.usize.TheConstants.{MAX}
+use Rattle.def_run.specs.Run.{JOURNAL}
 use Rattle.def_run.specs.Laws.{IsIdleAfter}
 use Rattle.def_explore.specs.Rests.{IsMovingAfter, KeptMessages}
 use Rattle.def_explore.specs.Lists.{OneOf, EachOf}
 use Rattle.def_explore.specs.Answers.{RestEntry, AreDistinct}
 use Rattle.def_explore.specs.RunsToEnd.{AreSoundWithin, AreCompleteWithin, AreShortestWithin}
-use Rattle.tn_explore.specs.Query.{Query, JournalFor, HasStateFor, HasNextFor, HaveAllFor, EndFor, EntryFor, NoLongerFor, kept_for, entry_for}
+use Rattle.tn_explore.specs.Query.{Query, JournalFor, HasStateFor, HasNextBy, HaveAllFor, EndFor, EntryFor, NoLongerFor, kept_for, entry_for}
 
 -- the entry of a pair: what is kept, and the journal
 abbrev pub answer_entry : {A M : Type 0} → (M → KeptMessages) → M × Vec ℕ A → RestEntry
@@ -66,19 +67,19 @@ Answers a journal es fs = KeepsEntries a journal es fs ⊎ GainsAnswer a journal
 abbrev pub AnswersEnd : {S : Type 0} → (S → List ℕ) → (S → Query → Type 0) → S → List RestEntry → List RestEntry → Type 0
 AnswersEnd Journal IsOf s es fs = (a : Query) → IsOf s a → EndFor a (Journal s) → Answers a (Journal s) es fs
 
--- a state was tried, with more states after it
-pub record TriesState {S : Type 0} (Journal : S → List ℕ) (IsOf : S → Query → Type 0) (a : Query) (depth : ℕ) (s : S) (old new : List S) (es fs : List RestEntry) : Type 0 where
+-- a state was tried, with more states after it; `left` says whether picks are left out
+pub record TriesState {S : Type 0} (Journal : S → List ℕ) (IsOf : S → Query → Type 0) (left : Bool) (a : Query) (depth : ℕ) (s : S) (old new : List S) (es fs : List RestEntry) : Type 0 where
   pub more : List S
   pub longer : new ≡ old ++ more
   pub at : AreAt Journal IsOf a depth new
-  pub next : HasNextFor a (map Journal new) (Journal s)
+  pub next : HasNextBy left a (map Journal new) (Journal s)
   pub answers : Answers a (Journal s) es fs
 
 -- some journals that are known, of which some were tried; the entries are those of the latter with which a run ends
-pub record HaveTried (a : Query) (depth : ℕ) (known tried : List (List ℕ)) (es : List RestEntry) : Type 0 where
+pub record HaveTried (left : Bool) (a : Query) (depth : ℕ) (known tried : List (List ℕ)) (es : List RestEntry) : Type 0 where
   pub from : EachOf (JournalFor a) known
   pub first : HasStateFor a known a.before
-  pub next : EachOf (HasNextFor a known) tried
+  pub next : EachOf (HasNextBy left a known) tried
   pub entries : EachOf (λ j. EndFor a j → OneOf (EntryFor a j) es) tried
   pub shortest : EachOf (λ j. EndFor a j → EachOf (NoLongerFor a j) es) tried
   pub short : EachOf (λ e. length e.journal ≤ depth) es
@@ -86,25 +87,30 @@ pub record HaveTried (a : Query) (depth : ℕ) (known tried : List (List ℕ)) (
   pub distinct : AreDistinct es
 
 -- the states of a layer were tried, all of them where it is complete, and else until the next one has so many; `tried` are the journals before them
-pub record TriesLayer {S : Type 0} (Journal : S → List ℕ) (IsOf : S → Query → Type 0) (a : Query) (depth : ℕ) (tried : List (List ℕ)) (ss new : List S) (es : List RestEntry) (room : ℕ) (complete : Bool) : Type 0 where
+pub record TriesLayer {S : Type 0} (Journal : S → List ℕ) (IsOf : S → Query → Type 0) (left : Bool) (a : Query) (depth : ℕ) (tried : List (List ℕ)) (ss new : List S) (es : List RestEntry) (room : ℕ) (complete : Bool) : Type 0 where
   pub at : AreAt Journal IsOf a (depth + 1) new
   pub done : List (List ℕ)
-  pub have : HaveTried a depth ((tried ++ map Journal ss) ++ map Journal new) done es
+  pub have : HaveTried left a depth ((tried ++ map Journal ss) ++ map Journal new) done es
   pub all : IsTrue complete → done ≡ tried ++ map Journal ss
   pub stops : complete ≡ false → room ≤ length new
 
--- so many journals go on from the first picks and are followed, or more than are counted, and have all states where all were tried
-pub record CountsStates (a : Query) (states : ℕ) (complete : Bool) : Type 0 where
+-- a layer without states, or with journals that have room; or picks are left out, and a journal may have none
+abbrev pub LayerHasRoom : {S : Type 0} → (S → List ℕ) → (S → Query → Type 0) → Bool → List S → Bool → Type 0
+LayerHasRoom Journal IsOf leaves_out ss true = leaves_out ≡ true → (a : Query) (depth : ℕ) → AreAt Journal IsOf a depth ss → (ss ≡ []) ⊎ (depth < JOURNAL)
+LayerHasRoom Journal IsOf leaves_out ss false = leaves_out ≡ true
+
+-- so many journals go on from the first picks and are followed, or more than are counted; where all were tried and no picks are left out, they have all states
+pub record CountsStates (left : Bool) (a : Query) (states : ℕ) (complete : Bool) : Type 0 where
   pub journals : List (List ℕ)
   pub from : EachOf (JournalFor a) journals
   pub count : states ≡ min (length journals) MAX
-  pub all : IsTrue complete → HaveAllFor a journals
+  pub all : IsTrue complete → left ≡ false → HaveAllFor a journals
 
 -- the entries are sound, each keeps something else, and where all states were tried they are complete and shortest; else so many states were met
-pub record Explores (a : Query) (es : List RestEntry) (max_states states : ℕ) (whole : Bool) : Type 0 where
+pub record Explores (left : Bool) (a : Query) (es : List RestEntry) (max_states states : ℕ) (whole : Bool) : Type 0 where
   pub sound : AreSoundWithin a.admits a.question a.sessions a.program a.before es
   pub distinct : AreDistinct es
   pub complete : IsTrue whole → AreCompleteWithin a.admits a.question a.sessions a.program a.before es
   pub shortest : IsTrue whole → AreShortestWithin a.admits a.question a.sessions a.program a.before es
-  pub count : CountsStates a states whole
+  pub count : CountsStates left a states whole
   pub stops : whole ≡ false → max_states ≤ states

@@ -1,6 +1,7 @@
 // The states after so many moves, each once.
 ghost use Rattle.std.specs.Prelude.{◌≡◌, ℕ, IfOk, List};
 
+use crate::reduction::Reduction;
 use crate::search_state::SearchState;
 use std::alloc::{AllocError, Allocator};
 
@@ -21,7 +22,7 @@ pub struct Layer<A: Allocator, S> {
 impl<A: Allocator + Copy, S: SearchState<A>> Layer<A, S> {
     ghost use Rattle.std.specs.Prelude.{[], ◌∷◌, ◌++◌};
     ghost use Rattle.tn_explore.specs.Query.{Query};
-    ghost use Rattle.tn_explore.specs.Searches.{IsAt, AreAt, HasSame, AddsState};
+    ghost use Rattle.tn_explore.specs.Searches.{IsAt, AreAt, HasSame, AddsState, LayerHasRoom};
 
     /// No state.
     pub fn new(alloc: A) -> Layer<A, S>
@@ -59,6 +60,16 @@ impl<A: Allocator + Copy, S: SearchState<A>> Layer<A, S> {
             };
         }
         false
+    }
+
+    /// Whether the journals of its states have room for a pick more, where picks are left out.
+    pub fn has_room<R: Reduction<A, S>>(&self) -> bool
+        ensures { (x : S.Context) → LayerHasRoom S.journal (S.is_of x) R.leaves_out self.now.states.items result }
+    {
+        match self.states.first() {
+            Some(state) => R::has_room(state),
+            None => true,
+        }
     }
 
     /// The states.

@@ -1,12 +1,14 @@
 // The search through all states, a layer at a time.
-ghost use Rattle.std.specs.Prelude.{◌≡◌, ◌+◌, ℕ, List, [], ◌∷◌, ◌++◌, IfOk, IsTrue, map, true};
+ghost use Rattle.std.specs.Prelude.{◌≡◌, ◌+◌, ℕ, List, [], ◌∷◌, ◌++◌, IfOk, IfSome, IfNone, IsTrue, map, true};
 ghost use Rattle.def_explore.specs.Answers.{RestEntry};
 ghost use Rattle.def_run.specs.Run.{moves};
 ghost use Rattle.tn_explore.specs.Query.{Query, AdmitsFor};
+ghost use Rattle.tn_explore.specs.SearchStates.{FollowsAllBy, HasEnoughPicks};
 ghost use Rattle.tn_explore.specs.Searches.{IsAt, AreAt, Tries, TriesState, TriesLayer, HaveTried, AnswersEnd};
 ghost use Rattle.tn_explore.specs.Searches.{Explores, answer_entries};
 
 use crate::layer::Layer;
+use crate::reduction::Reduction;
 use crate::search_state::SearchState;
 use indexmap::IndexMap;
 use std::alloc::{AllocError, Allocator};
@@ -61,25 +63,51 @@ fn answer<A: Allocator + Copy, S: SearchState<A>>(
     Ok(())
 }
 
-/// Tries all picks after a state. Where none moves, or what is kept is not admitted, it is answered.
-fn try_state<A: Allocator + Copy, S: SearchState<A>>(
+/// This pick alone.
+fn pick_alone<A: Allocator>(alloc: A, pick: u32) -> Result<Vec<u32, A>, AllocError>
+    ensures { IfOk result (λ v. v.items ≡ pick ∷ []) }
+{
+    let mut picks = Vec::new(alloc);
+    picks.push(pick)?;
+    Ok(picks)
+}
+
+/// The picks that are tried after a state: those that may move, or one that goes before the others.
+fn picks_to_try<A: Allocator + Copy, S: SearchState<A>, R: Reduction<A, S>>(
+    alloc: A,
+    context: &S::Context,
+    state: &S,
+) -> Result<Vec<u32, A>, AllocError>
+    ensures { IfOk result (λ v.
+        HasEnoughPicks S.journal (S.is_of context.now) R.leaves_out state.now v.items) }
+{
+    let picks = state.picks(alloc, context)?;
+    match R::first_pick(context, state, &picks)? {
+        Some(pick) => pick_alone(alloc, pick),
+        None => Ok(picks),
+    }
+}
+
+/// Tries the picks after a state that are tried. Where none moves, or what is kept is not admitted, it is answered.
+fn try_state<A: Allocator + Copy, S: SearchState<A>, R: Reduction<A, S>>(
     context: &S::Context,
     filter: &S::Filter,
     state: &S,
     next: &mut Layer<A, S>,
     answers: &mut Answers<A, S::Observation>,
 ) -> Result<(), AllocError>
-    ensures { IfOk result (λ _. (a : Query) (depth : ℕ) → S.filters filter.now a →
+    ensures { IfOk result (λ _. (a : Query) (depth : ℕ) → S.filters filter.now a → FollowsAllBy R.leaves_out a →
         AreAt S.journal (S.is_of context.now) a (depth + 1) next.old.states.items →
         IsAt S.journal (S.is_of context.now) a depth state.now →
-        TriesState S.journal (S.is_of context.now) a (depth + 1) state.now next.old.states.items next.new.states.items
+        TriesState S.journal (S.is_of context.now) R.leaves_out a (depth + 1) state.now
+        next.old.states.items next.new.states.items
         (answer_entries S.kept_seen answers.old.entries) (answer_entries S.kept_seen answers.new.entries)) }
 {
     let alloc = next.alloc;
     if !state.is_admitted(alloc, filter)? {
         return answer(alloc, state, answers);
     }
-    let picks = state.picks(alloc, context)?;
+    let picks = picks_to_try::<A, S, R>(alloc, context, state)?;
     let moved = try_picks(context, state, &picks, next)?;
     if moved {
         return Ok(());
@@ -89,7 +117,7 @@ fn try_state<A: Allocator + Copy, S: SearchState<A>>(
 
 /// Tries each state of a layer, while the next has fewer than so many states: whether all were tried. Each is gone once
 /// it was tried, so that the memory of one layer is taken by the next.
-fn try_layer<A: Allocator + Copy, S: SearchState<A>>(
+fn try_layer<A: Allocator + Copy, S: SearchState<A>, R: Reduction<A, S>>(
     context: &S::Context,
     filter: &S::Filter,
     states: Vec<S, A>,
@@ -98,11 +126,12 @@ fn try_layer<A: Allocator + Copy, S: SearchState<A>>(
     room: usize,
 ) -> Result<bool, AllocError>
     ensures { IfOk result (λ complete. (a : Query) (depth : ℕ) (tried : List (List ℕ)) →
-        S.filters filter.now a → next.old.states.items ≡ [] →
+        S.filters filter.now a → FollowsAllBy R.leaves_out a → next.old.states.items ≡ [] →
         AreAt S.journal (S.is_of context.now) a depth states.items →
-        HaveTried a depth (tried ++ map S.journal states.items) tried (answer_entries S.kept_seen answers.old.entries) →
-        TriesLayer S.journal (S.is_of context.now) a depth tried states.items next.new.states.items
-        (answer_entries S.kept_seen answers.new.entries) room complete) }
+        HaveTried R.leaves_out a depth (tried ++ map S.journal states.items) tried
+        (answer_entries S.kept_seen answers.old.entries) →
+        TriesLayer S.journal (S.is_of context.now) R.leaves_out a depth tried states.items
+        next.new.states.items (answer_entries S.kept_seen answers.new.entries) room complete) }
 {
     let count = states.len();
     let mut rest = VecDeque::from(states);
@@ -113,7 +142,7 @@ fn try_layer<A: Allocator + Copy, S: SearchState<A>>(
         let Some(state) = rest.pop_front() else {
             return Ok(true);
         };
-        try_state(context, filter, &state, next, answers)?;
+        try_state::<A, S, R>(context, filter, &state, next, answers)?;
     }
     Ok(true)
 }
@@ -129,18 +158,22 @@ pub struct Exploration<A: Allocator, M: Eq + Hash> {
     pub is_complete: bool,
 }
 
-/// Tries all states from the first on, until so many were met. A run that is not admitted ends there. An error is
-/// refused memory.
-pub fn explore<A: Allocator + Copy, S: SearchState<A>>(
+/// Tries all states from the first on, until so many were met. A run that is not admitted ends there. None where picks
+/// are left out and a journal may have no room for a pick more: the search that leaves out none answers then. An error
+/// is refused memory.
+pub fn explore<A: Allocator + Copy, S: SearchState<A>, R: Reduction<A, S>>(
     alloc: A,
     context: &S::Context,
     filter: &S::Filter,
     first: S,
     max_states: usize,
-) -> Result<Exploration<A, S::Observation>, AllocError>
-    ensures { IfOk result (λ e. (a : Query) →
-        S.is_of context.now first a → S.filters filter.now a → S.journal first ≡ moves a.program a.before →
-        Explores a (answer_entries S.kept_seen e.answers.entries) max_states e.states e.is_complete) }
+) -> Result<Option<Exploration<A, S::Observation>>, AllocError>
+    ensures some { IfOk result (λ o. IfSome o (λ e. (a : Query) →
+        S.is_of context.now first a → S.filters filter.now a → FollowsAllBy R.leaves_out a →
+        S.journal first ≡ moves a.program a.before →
+        Explores R.leaves_out a (answer_entries S.kept_seen e.answers.entries) max_states
+        e.states e.is_complete)) }
+    ensures none { IfOk result (λ o. IfNone o (R.leaves_out ≡ true)) }
 {
     let mut layer = Layer::new(alloc);
     layer.add(first)?;
@@ -148,15 +181,18 @@ pub fn explore<A: Allocator + Copy, S: SearchState<A>>(
     let mut states = layer.states.len();
     for _ in 0..LAYERS {
         if layer.states.is_empty() {
-            return Ok(Exploration {
+            return Ok(Some(Exploration {
                 answers,
                 states,
                 is_complete: true,
-            });
+            }));
+        }
+        if !layer.has_room::<R>() {
+            return Ok(None);
         }
         let mut next = Layer::new(alloc);
         let room = max_states.saturating_sub(states);
-        let is_complete = try_layer(
+        let is_complete = try_layer::<A, S, R>(
             context,
             filter,
             layer.into_states(),
@@ -166,18 +202,18 @@ pub fn explore<A: Allocator + Copy, S: SearchState<A>>(
         )?;
         let met = states.saturating_add(next.states.len());
         if !is_complete {
-            return Ok(Exploration {
+            return Ok(Some(Exploration {
                 answers,
                 states: met,
                 is_complete,
-            });
+            }));
         }
         layer = next;
         states = met;
     }
-    Ok(Exploration {
+    Ok(Some(Exploration {
         answers,
         states,
         is_complete: false,
-    })
+    }))
 }

@@ -138,7 +138,7 @@ SCHEDULES = codes "script" ∷ codes "after" ∷ codes "control" ∷ codes "orde
 -- the arguments of `explore`
 abbrev pub EXPLORE_ARGUMENTS : List (List ℕ)
 EXPLORE_ARGUMENTS =
-    SCHEDULES ++ codes "shows" ∷ codes "always" ∷ codes "never" ∷ codes "sometimes" ∷ codes "random" ∷ codes "seed" ∷ codes "max-states" ∷ codes "max-output" ∷ codes "output" ∷ []
+    SCHEDULES ++ codes "shows" ∷ codes "always" ∷ codes "never" ∷ codes "sometimes" ∷ codes "random" ∷ codes "seed" ∷ codes "reduce" ∷ codes "max-states" ∷ codes "max-output" ∷ codes "output" ∷ []
 
 -- which trace, with which schedules it is compared, and whether the answer is JSON
 abbrev pub TRACES : List (List ℕ)

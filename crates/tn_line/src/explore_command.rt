@@ -1,6 +1,7 @@
 // The command `explore`, with its arguments.
 ghost use Rattle.std.specs.Prelude.{codes, IfOk};
-ghost use Rattle.tn_line.specs.Line.{EXPLORE_ARGUMENTS, SCHEDULES, IsCommand, IsElse, IsFromTo, IsOption, IsOptions};
+ghost use Rattle.tn_line.specs.Line.{EXPLORE_ARGUMENTS, SCHEDULES, IsCommand, IsElse, IsFlag, IsFromTo, IsOption};
+ghost use Rattle.tn_line.specs.Line.{IsOptions};
 
 use crate::arguments::{ORDERS, json_alone, max_output, output, script, summary};
 use clap::{Arg, ArgAction, Command, value_parser};
@@ -164,6 +165,19 @@ fn seed<'a>(alloc: Global) -> Result<Arg<'a>, AllocError>
         .requires_arg("random")
 }
 
+/// `--reduce`, which is not taken beside `--random`.
+fn reduce<'a>(alloc: Global) -> Result<Arg<'a>, AllocError>
+    ensures { IfOk result (IsFlag (codes "reduce")) }
+{
+    Arg::new(alloc, "reduce")
+        .long("reduce")
+        .help(
+            "Tries a move alone that is independent of all others: the same listings, of fewer states",
+        )
+        .action(ArgAction::SetTrue)
+        .conflicts_with("random")
+}
+
 /// The command with the arguments that say which schedules, what is in an order, and in which form the answer is.
 fn schedules<'a>(alloc: Global) -> Result<Command<'a>, AllocError>
     ensures { IfOk result (IsCommand (codes "explore") SCHEDULES) }
@@ -181,7 +195,7 @@ fn schedules<'a>(alloc: Global) -> Result<Command<'a>, AllocError>
 
 /// The subcommand `explore [SCRIPT] [--after MOVES] [--control first] [--order ORDER] [--session NAME]
 /// [--summary] [--json] [--shows PATTERN] [--always PATTERN] [--never PATTERN] [--sometimes PATTERN] [--random N]
-/// [--seed S] [--max-states N] [--max-output BYTES] [--output FILE]`.
+/// [--seed S] [--reduce] [--max-states N] [--max-output BYTES] [--output FILE]`.
 pub(crate) fn explore<'a>(alloc: Global) -> Result<Command<'a>, AllocError>
     ensures { IfOk result (IsCommand (codes "explore") EXPLORE_ARGUMENTS) }
 {
@@ -192,6 +206,7 @@ pub(crate) fn explore<'a>(alloc: Global) -> Result<Command<'a>, AllocError>
         .arg(sometimes(alloc))?
         .arg(random(alloc))?
         .arg(seed(alloc)?)?
+        .arg(reduce(alloc)?)?
         .arg(max_states(alloc))?
         .arg(max_output(alloc))?
         .arg(output(alloc))

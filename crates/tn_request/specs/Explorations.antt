@@ -23,6 +23,7 @@ pub record IsExplorationAsked (args : ExploreArgs) (asked : SearchQuestion Globa
   pub session : q.session ≡ args.session
   pub question : q.question ≡ asked
   pub max_states : q.max_states ≡ args.max_states
+  pub reduces : q.reduces ≡ args.reduces
   pub random : q.random ≡ args.random
   pub form : q.form ≡ args.form
 

@@ -33,6 +33,7 @@ pub fn exploration_of<'a, 'w: 'a>(
         session: words.session,
         question,
         max_states: words.max_states as usize,
+        reduces: words.reduces,
         random: words.random,
         form: words.form,
     }

@@ -95,6 +95,8 @@ pub struct ExploreArgs<'a> {
     pub goes_on: bool,
     /// How many states may be met before it ends.
     pub max_states: u32,
+    /// Whether the search leaves out picks that others go before which are independent of all.
+    pub reduces: bool,
     /// The random runs that are made in place of a search, where some are.
     pub random: Option<RandomRuns>,
     /// The form of the answer.

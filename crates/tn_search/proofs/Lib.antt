@@ -3,5 +3,8 @@ pub mod Sessions
 pub mod Places
 pub mod ReadyPicks
 pub mod Steps
+pub mod FreeSessions
+pub mod FirstPicks
+pub mod Reductions
 pub mod Gathers
 pub mod OnlyEntries

@@ -30,7 +30,7 @@ pub record IsBeside {T S : Type 0} (P : T → S → Type 0) (n : ℕ) (t : T) (s
   pub at : slice_get ss n ≡ Some other
   pub so : P t other
 
-beside : {T S : Type 0} (P : T → S → Type 0) (n : ℕ) (t : T) (ts : List T) (ss : List S) → EachPair P ts ss → slice_get ts n ≡ Some t → IsBeside P n t ss
+pub beside : {T S : Type 0} (P : T → S → Type 0) (n : ℕ) (t : T) (ts : List T) (ss : List S) → EachPair P ts ss → slice_get ts n ≡ Some t → IsBeside P n t ss
 beside P zero t [] ss h e = cc
 beside P (suc n) t [] ss h e = cc
 beside P n t (u ∷ ts) [] h e = absurd h
@@ -38,7 +38,7 @@ beside P zero t (u ∷ ts) (s ∷ ss) h e = let is : u ≡ t = cc in record { ot
 beside P (suc n) t (u ∷ ts) (s ∷ ss) h e = let r = beside P n t ts ss h.1 e in record { other = r.other; at = r.at; so = r.so }
 
 -- that of a session's place is what the session is
-track_at : (o : Exports) (items : List HistoryItem) (k n : ℕ) (cs : List (Name × Name)) (s : Name × Name) → slice_get cs n ≡ Some s
+pub track_at : (o : Exports) (items : List HistoryItem) (k n : ℕ) (cs : List (Name × Name)) (s : Name × Name) → slice_get cs n ≡ Some s
     → (m : ℕ) × (slice_get (tracks_from o items k cs) n ≡ Some (track_after o items m s.0))
 track_at o items k zero [] s e = cc
 track_at o items k (suc n) [] s e = cc
@@ -59,10 +59,10 @@ element_is (x ∷ xs) (suc n) d below is = element_is xs n d (omega arith) is
 
 -- ---- the same at a place
 
-some_is : {X : Type 0} (x y : X) → Some x ≡ Some y → x ≡ y
+pub some_is : {X : Type 0} (x y : X) → Some x ≡ Some y → x ≡ y
 some_is x y e = cc
 
-none_is_some : {X : Type 0} (x : X) → None ≡ Some x → ⊥
+pub none_is_some : {X : Type 0} (x : X) → None ≡ Some x → ⊥
 none_is_some x e = cc
 
 pub same_past : {A K : Type 0} (Keeps : K → List Tree → Type 0) (b : Bool) (ones others : List (Slot A K)) (n : ℕ) → length ones ≤ n → AreSameAt Keeps b ones others n

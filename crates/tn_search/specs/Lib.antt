@@ -5,3 +5,4 @@ pub mod ReadyPicks
 pub mod States
 pub mod GreedyRuns
 pub mod RandomRuns
+pub mod FirstPicks

@@ -1,14 +1,17 @@
 -- When events left sessions in the same state, and what is kept of the messages of sessions by their places.
 -- Depends on what is kept of messages.
-use Rattle.std.specs.Prelude.{◌≡◌, ℕ, Bool, IsTrue, List, [], ◌∷◌, ◌++◌, map, slice_get, Option, Some, option_to_list}
+use Rattle.std.specs.Prelude.{◌≡◌, ◌&&◌, ℕ, Bool, true, not, IsTrue, List, [], ◌∷◌, ◌++◌, map, slice_get, Option, Some, option_to_list}
 use Rattle.def_term.specs.Alive.{Alive}
 use Rattle.def_term.specs.Names.{Name, Mfa}
 use Rattle.def_term.specs.Tree.{Tree}
 use Rattle.def_script.specs.Exports.{Exports}
 use Rattle.def_script.specs.Program.{Program}
 use Rattle.def_script.specs.Script.{creations}
+use Rattle.def_spec.specs.Flags.{receive_flag}
 use Rattle.def_session.specs.State as definition
+use Rattle.def_session.specs.State.{flags_at}
 use Rattle.def_explore.specs.Settings.{settings_in}
+use Rattle.def_independence.specs.OwnEffects.{session_acts_on_self}
 use Rattle.tn_session.specs.declared.session.Session.{Session}
 use Rattle.tn_trace.specs.Tracks.{Track}
 use Rattle.tn_trace.specs.Slots.{IsSession, IsTracked, EachPair}
@@ -69,3 +72,17 @@ AddsKept Keeps n slots old new =
 abbrev pub AreKeptAt : {A K : Type 0} → (K → List Tree → Type 0) → List ℕ → List (Slot A K) → List K → Type 0
 AreKeptAt Keeps places slots sinks =
     (o : Exports) (living : Alive) (ts : List Track) → EachPair (IsTracked Keeps o living) ts slots → AreSinksOf Keeps (track_messages (elements_at places ts)) sinks
+
+-- ---- sessions that a move of one process leaves free
+
+-- no specification of the session acts on another process than its own, and the process with this pid hasn't the flag `receive` in it
+abbrev pub is_free_for : ℕ → definition.Session → Bool
+is_free_for n s = session_acts_on_self s && not (flags_at s n receive_flag)
+
+-- where it is true, the session of the definitions is so
+abbrev pub IsFreeSession : {A : Type 0} → ℕ → Option (Session A) → Bool → Type 0
+IsFreeSession n session result = IsTrue result → (fs : List (Mfa × Bool)) (living : Alive) (s : definition.Session) → IsSession fs living s session → is_free_for n s ≡ true
+
+-- of whichever session the slot at the place is, it is so, where there is one
+abbrev pub IsFreeAt : {A K : Type 0} → (K → List Tree → Type 0) → ℕ → List (Slot A K) → ℕ → Type 0
+IsFreeAt {A} {K} Keeps n slots place = (slot : Slot A K) → slice_get slots place ≡ Some slot → (o : Exports) (living : Alive) (t : Track) → IsTracked Keeps o living t slot → is_free_for n t.session ≡ true

@@ -47,10 +47,14 @@ abbrev pub is_by_process : ListingOrder → Bool
 is_by_process Total = false
 is_by_process ByProcess = true
 
--- the search went through all schedules that begin with some picks, as long as they are followed, until so many states were met
-abbrev pub ExploresProgram : {A : Type 0} → (KeptMessages → Bool) → Bool → Program → List ℕ → List ℕ → ℕ → Exploration A (KeptListings A) → Type 0
-ExploresProgram admits b p before places max_states e = Explores (query_of admits b p before places) (answer_entries kept_seen e.answers.entries) max_states e.states e.is_complete
+-- the search went through all schedules that begin with some picks, as long as they are followed, until so many states were met; `left` says whether it left out picks
+abbrev pub ExploresProgram : {A : Type 0} → Bool → (KeptMessages → Bool) → Bool → Program → List ℕ → List ℕ → ℕ → Exploration A (KeptListings A) → Type 0
+ExploresProgram left admits b p before places max_states e = Explores left (query_of admits b p before places) (answer_entries kept_seen e.answers.entries) max_states e.states e.is_complete
 
 -- through those that the plan says
+abbrev pub ExploresPlanned : {A : Type 0} → Bool → (KeptMessages → Bool) → Bool → Program → SearchPlan → Exploration A (KeptListings A) → Type 0
+ExploresPlanned left admits b p plan = ExploresProgram left admits b p plan.before.now plan.places.now plan.max_states
+
+-- as the plan says
 abbrev pub ExploresPlan : {A : Type 0} → (KeptMessages → Bool) → Program → SearchPlan → Exploration A (KeptListings A) → Type 0
-ExploresPlan admits p plan = ExploresProgram admits (is_by_process plan.order) p plan.before.now plan.places.now plan.max_states
+ExploresPlan admits p plan = ExploresPlanned plan.reduces admits (is_by_process plan.order) p plan

@@ -1,15 +1,16 @@
 // The search through all schedules of a program.
-ghost use Rattle.std.specs.Prelude.{IfOk};
+ghost use Rattle.std.specs.Prelude.{false, true, IfOk};
 ghost use Rattle.tn_program.specs.Views.{program_of};
-ghost use Rattle.tn_search.specs.States.{ExploresPlan, ExploresProgram, IsStateAfter};
+ghost use Rattle.tn_search.specs.States.{ExploresPlan, ExploresPlanned, IsStateAfter};
 
 use crate::process_sink::ProcessSink;
 use crate::program_state::{ProgramState, copy_places};
+use crate::reduction::FirstPicks;
 use crate::search_sink::SearchSink;
 use crate::total_sink::TotalSink;
 use std::alloc::{AllocError, Allocator};
 use std::marker::PhantomData;
-use tn_explore::{Exploration, explore};
+use tn_explore::{AllPicks, Exploration, explore};
 use tn_messages::{KeptListings, RunFilter};
 use tn_program::Program;
 use tn_trace::{JOURNAL, Recorder, Run};
@@ -34,6 +35,8 @@ pub struct SearchPlan<'a> {
     pub places: &'a [usize],
     /// How many states may be met before it ends.
     pub max_states: usize,
+    /// Whether picks are left out that others go before which are independent of all.
+    pub reduces: bool,
 }
 
 /// The state after some picks, of the sessions at some places.
@@ -58,22 +61,72 @@ pub(crate) fn state_after<A: Allocator + Copy, K: SearchSink<A> + Drop, F: RunFi
     })
 }
 
-/// The search through all schedules that begin with some picks, by what a state keeps of messages.
-fn explore_by<A: Allocator + Copy, K: SearchSink<A> + Drop, F: RunFilter<A>>(
+/// The search that leaves out no pick.
+fn explore_whole<A: Allocator + Copy, K: SearchSink<A> + Drop, F: RunFilter<A>>(
     alloc: A,
     program: &Program<A>,
     filter: &F,
     plan: &SearchPlan<'_>,
 ) -> Result<Exploration<A, KeptListings<A>>, AllocError>
-    ensures { let p = program_of program.now in let admits = F.admits filter.now in IfOk result
-        (ExploresProgram admits K.is_by_process p plan.now.before.now plan.now.places.now plan.now.max_states) }
+    ensures { let admits = F.admits filter.now in IfOk result
+        (ExploresPlanned false admits K.is_by_process (program_of program.now) plan.now) }
 {
     let first = state_after::<A, K, F>(alloc, program, plan.before, plan.places)?;
-    explore(alloc, program, filter, first, plan.max_states)
+    let limit = plan.max_states;
+    let found = explore::<A, ProgramState<A, K, F>, AllPicks>(
+        alloc, program, filter, first, limit,
+    )?;
+    match found {
+        Some(exploration) => Ok(exploration),
+        None => unreachable!(),
+    }
+}
+
+/// The search that leaves out picks where each run is followed. Where a journal may have no room for one more it leaves
+/// out none.
+fn explore_reduced<A: Allocator + Copy, K: SearchSink<A> + Drop, F: RunFilter<A>>(
+    alloc: A,
+    program: &Program<A>,
+    filter: &F,
+    plan: &SearchPlan<'_>,
+) -> Result<Exploration<A, KeptListings<A>>, AllocError>
+    ensures { let admits = F.admits filter.now in IfOk result
+        (ExploresPlanned true admits K.is_by_process (program_of program.now) plan.now) }
+{
+    if !filter.is_open() {
+        return explore_whole::<A, K, F>(alloc, program, filter, plan);
+    }
+    let first = state_after::<A, K, F>(alloc, program, plan.before, plan.places)?;
+    let limit = plan.max_states;
+    let found = explore::<A, ProgramState<A, K, F>, FirstPicks>(
+        alloc, program, filter, first, limit,
+    )?;
+    match found {
+        Some(exploration) => Ok(exploration),
+        None => explore_whole::<A, K, F>(alloc, program, filter, plan),
+    }
+}
+
+/// The search that the plan says, by what a state keeps of messages.
+fn explore_as_planned<A: Allocator + Copy, K: SearchSink<A> + Drop, F: RunFilter<A>>(
+    alloc: A,
+    program: &Program<A>,
+    filter: &F,
+    plan: &SearchPlan<'_>,
+) -> Result<Exploration<A, KeptListings<A>>, AllocError>
+    ensures { let admits = F.admits filter.now in IfOk result
+        (ExploresPlanned plan.now.reduces admits K.is_by_process (program_of program.now) plan.now) }
+{
+    let reduces = plan.reduces;
+    if reduces {
+        return explore_reduced::<A, K, F>(alloc, program, filter, plan);
+    }
+    explore_whole::<A, K, F>(alloc, program, filter, plan)
 }
 
 /// The search through all schedules of a program that the plan says, each followed as long as what is kept of it is
-/// admitted.
+/// admitted. Where the plan reduces it and each run is followed, picks are left out that others go before which are
+/// independent of all: the entries are as sound and complete, and their journals as short.
 ///
 /// # Errors
 ///
@@ -87,7 +140,11 @@ pub fn explore_program<A: Allocator + Copy, F: RunFilter<A>>(
     ensures { IfOk result (ExploresPlan (F.admits filter.now) (program_of program.now) plan.now) }
 {
     match plan.order {
-        ListingOrder::Total => explore_by::<A, TotalSink<A>, F>(alloc, program, filter, plan),
-        ListingOrder::ByProcess => explore_by::<A, ProcessSink<A>, F>(alloc, program, filter, plan),
+        ListingOrder::Total => {
+            explore_as_planned::<A, TotalSink<A>, F>(alloc, program, filter, plan)
+        }
+        ListingOrder::ByProcess => {
+            explore_as_planned::<A, ProcessSink<A>, F>(alloc, program, filter, plan)
+        }
     }
 }

@@ -2,7 +2,8 @@
 //!
 //! Depends on tn_explore (the search over whatever keeps a state), tn_greedy_run, tn_random_run, tn_trace (runs) and
 //! tn_messages (what states keep of messages, and which runs are followed). Promises that `explore_program` gives sound
-//! entries, each of another listing, and, where the search ends before its limit, complete ones with shortest journals;
+//! entries, each of another listing, and, where the search ends before its limit, complete ones with shortest journals,
+//! also where it leaves out picks that others go before;
 //! that `greedy_program` gives the entry of the greedy run; and that `random_program` gives those of the random runs of
 //! a seed, which are sound.
 #![tactic(auto)]
@@ -13,6 +14,7 @@ mod process_sink;
 mod program_state;
 mod random;
 mod ready_picks;
+mod reduction;
 mod search_sink;
 mod session_states;
 mod total_sink;

@@ -110,6 +110,10 @@ impl<A: Allocator + Copy> SearchSink<A> for ProcessSink<A> {
 
     ghost is_by_process = { true };
 
+    fn is_of_processes() -> bool {
+        true
+    }
+
     fn same(&self, other: &Self) -> bool {
         self.messages.same(&other.messages)
     }

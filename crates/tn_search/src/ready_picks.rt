@@ -15,7 +15,7 @@ use tn_script::Function;
 use tn_term::FIRST_PID;
 
 /// Whether a command of the control list is left.
-fn has_command_left<A: Allocator + Copy>(program: &Program<A>, node: &Node<A>) -> bool
+pub(crate) fn has_command_left<A: Allocator + Copy>(program: &Program<A>, node: &Node<A>) -> bool
     ensures { result ≡ has_command_left (length (program_of program.now).commands) (taken_in node.now) }
 {
     match node.commands_taken() {

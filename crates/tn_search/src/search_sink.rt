@@ -15,6 +15,10 @@ pub trait SearchSink<A: Allocator>: SharedSink<A> {
     /// Whether it is by process.
     ghost is_by_process: { Bool };
 
+    /// Whether it is by process.
+    fn is_of_processes() -> bool
+        ensures { result ≡ is_by_process };
+
     /// Whether the same is kept. Where it is false that may be so too.
     fn same(&self, other: &Self) -> bool
         ensures { KeepSame Self.keeps is_by_process self.now other.now result };

@@ -3,10 +3,12 @@ ghost use Rattle.std.specs.Prelude.{◌≡◌, IsTrue, IfOk};
 ghost use Rattle.tn_term.specs.Views.{alive_of};
 ghost use Rattle.def_explore.specs.Lists.{EachOf};
 ghost use Rattle.tn_search.specs.Sessions.{AreSameAt, IsSameSlot, IsSameSession, AreKeptAt, AddsKept};
+ghost use Rattle.tn_search.specs.Sessions.{IsFreeAt, IsFreeSession};
 
 use crate::search_sink::SearchSink;
 use std::alloc::{AllocError, Allocator};
 use std::hash::{FoldHasher, Hasher};
+use tn_independence::session_acts_on_self;
 use tn_session::Session;
 use tn_term::{Alive, PROCESSES};
 use tn_trace::Slot;
@@ -76,6 +78,51 @@ pub(crate) fn same_slots<A: Allocator + Copy, K: SearchSink<A> + Drop>(
 {
     for place in places {
         if !same_at(*place, one, other) {
+            return false;
+        }
+    }
+    true
+}
+
+/// Whether no specification of a session acts on another process than its own, and the session shows this process no
+/// message as it comes. One that isn't created is none of which that is said.
+fn is_free_session<A: Allocator + Copy>(session: &Option<Session<A>>, pid: u32) -> bool
+    ensures { IsFreeSession pid session.now result }
+{
+    let Some(session) = session else {
+        return false;
+    };
+    let Some(look) = session.look() else {
+        return false;
+    };
+    let flags = look.flags_at(pid);
+    session_acts_on_self(&look) && !flags.receive
+}
+
+/// The same of the session at a place, where there is one.
+fn is_free_at<A: Allocator + Copy, K: SearchSink<A> + Drop>(
+    place: usize,
+    slots: &[Slot<A, K>],
+    pid: u32,
+) -> bool
+    ensures { IsTrue result → IsFreeAt K.keeps pid slots.now place }
+{
+    if place >= slots.len() {
+        return true;
+    }
+    is_free_session(&slots[place].session, pid)
+}
+
+/// The same of the sessions at these places.
+pub(crate) fn are_free<A: Allocator + Copy, K: SearchSink<A> + Drop>(
+    places: &[usize],
+    slots: &[Slot<A, K>],
+    pid: u32,
+) -> bool
+    ensures { IsTrue result → EachOf (IsFreeAt K.keeps pid slots.now) places.now }
+{
+    for place in places {
+        if !is_free_at(*place, slots, pid) {
             return false;
         }
     }

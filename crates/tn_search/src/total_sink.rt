@@ -93,6 +93,10 @@ impl<A: Allocator + Copy> SearchSink<A> for TotalSink<A> {
 
     ghost is_by_process = { false };
 
+    fn is_of_processes() -> bool {
+        false
+    }
+
     fn same(&self, other: &Self) -> bool {
         same_messages(&self.messages, &other.messages)
     }

@@ -1,6 +1,7 @@
-use Rattle.std.specs.Prelude.{IfOk}
+use Rattle.std.specs.Prelude.{IfOk, IfSome}
 use Rattle.std.proofs.lemmas.Result.{IfOk-weaker}
-use Rattle.complete_explore.proofs.SameEntries.{Promises, BothAlike, both_alike}
+use Rattle.complete_explore.specs.Explorations.{IfBoth}
+use Rattle.complete_explore.proofs.SameEntries.{Promises, BothAlike, both_if_both}
 use Rattle.complete_explore.proofs.search.explore.Goals as goal
 
 pub returns : goal.returns
@@ -13,6 +14,8 @@ returns g c =
     let one = c.args.one in
     let other = c.args.other in
     let most = c.args.max_states in
-    IfOk-weaker c.explore-first.result (Promises J K F most I_one one) (λ e. IfOk c.explore-second.result (BothAlike J K F most I_one I_other one other e))
-    (λ e h. IfOk-weaker c.explore-second.result (Promises J K F most I_other other) (BothAlike J K F most I_one I_other one other e) (λ f k. both_alike J K F most I_one I_other one other e f h k) c.explore-second.ensures)
-    c.explore-first.ensures
+    let left = g.R.Reduction.leaves_out in
+    let Both = BothAlike J K F most left I_one I_other one other in
+    IfOk-weaker c.explore-first.result (λ o. IfSome o (Promises J K F most left I_one one)) (λ o. IfOk c.explore-second.result (λ r. IfBoth o r Both))
+    (λ o h. IfOk-weaker c.explore-second.result (λ r. IfSome r (Promises J K F most left I_other other)) (λ r. IfBoth o r Both) (λ r k. both_if_both J K F most left I_one I_other one other o r h k) c.explore-second.ensures.some)
+    c.explore-first.ensures.some

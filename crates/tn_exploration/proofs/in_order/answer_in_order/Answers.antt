@@ -34,7 +34,7 @@ returns g c =
     let after = c.in_ok-after.after in
     let es = answer_entries (kept_seen {A = g.row.A.Denot}) after.answers.entries in
     let found = subst (λ o. IsRunInOrder a p plan.before.now plan.places.now plan.max_states (option_map run_in_order_seen o)) c.in-Some.is c.in_ok-run.ensures in
-    let search = subst (λ js. Explores (query_of (begins_trace a.messages) true p js plan.places.now) es plan.max_states after.states after.is_complete) c.deref.ensures.value c.in_ok-after.ensures in
+    let search = subst (λ js. Explores false (query_of (begins_trace a.messages) true p js plan.places.now) es plan.max_states after.states after.is_complete) c.deref.ensures.value c.in_ok-after.ensures in
     IfOk-weaker c.answer_with_run.result (λ o. option_map search_text_seen o ≡ text_with_run form ss a es run.states false)
     (λ o. IsTextInOrder form ss a p plan.before.now plan.places.now plan.max_states (option_map search_text_seen o))
     (λ o h. (Some (run_in_order_seen run), found, record { entries = es; states = after.states; whole = after.is_complete; search = search; written = h })) c.answer_with_run.ensures

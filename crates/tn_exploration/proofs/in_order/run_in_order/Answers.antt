@@ -31,4 +31,4 @@ returns g c =
     let greedy : greedy_run_in_order a p plan.before.now plan.places.now plan.max_states ≡ run =
     sym (c.in_ok-run.ensures ∙ ap (λ es. run_of_match (possible_by a es) e.states) h.entry ∙ ap (run_of_match _) h.states) in
     let none = is_there run_in_order_seen c.in_ok-run.run' _ (sym c.is_some.ensures ∙ c.if-is_some.false) in
-    IfOk-weaker c.run_by_search.result _ _ (λ o is. greedy_not_found a p plan.before.now plan.places.now plan.max_states run (option_map run_in_order_seen o) greedy none is) (c.run_by_search.ensures refl)
+    IfOk-weaker c.run_by_search.result _ _ (λ o is. greedy_not_found a p plan.before.now plan.places.now plan.max_states run (option_map run_in_order_seen o) greedy none is) (c.run_by_search.ensures refl refl)

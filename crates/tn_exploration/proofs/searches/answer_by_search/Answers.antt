@@ -17,7 +17,7 @@ returns g c =
     let ss = map session_name_seen k.names.now in
     let e = c.in_ok-exploration.exploration in
     IfOk-weaker c.answer_from.result (λ a. IsTextOfExploration (form_seen k.form) ss q e (search_text_seen a.answer) (departure_seen a.departure))
-    (λ a. IsTextOfSearch (form_seen k.form) ss q (is_by_process plan.order) (program_of c.args.program.now) plan.before.now plan.places.now plan.max_states (search_text_seen a.answer) (departure_seen a.departure))
+    (λ a. IsTextOfSearch (form_seen k.form) ss q (is_by_process plan.order) plan.reduces (program_of c.args.program.now) plan.before.now plan.places.now plan.max_states (search_text_seen a.answer) (departure_seen a.departure))
     (λ a h. record {
       entries = answer_entries kept_seen e.answers.entries;
       states = e.states;

@@ -30,5 +30,5 @@ returns g c =
     let plan = c.args.task.now.plan.now in
     let form = form_seen c.args.task.now.form in
     let before = subst (λ o. IsTextBefore form ss p plan.before.now plan.places.now plan.max_states (trace_by_process q b) (option_map search_text_seen o)) c.in_default.is c.in_ok-answer.ensures in
-    IfOk-weaker c.answer_by_search.result (λ a. IsTextOfSearch form ss q b p plan.before.now plan.places.now plan.max_states (search_text_seen a.answer) (departure_seen a.departure))
-    (λ a. IsAnswerText form ss q b p plan.before.now plan.places.now plan.max_states (search_text_seen a.answer) (departure_seen a.departure)) (λ a h. (None, before, h)) c.answer_by_search.ensures
+    IfOk-weaker c.answer_by_search.result (λ a. IsTextOfSearch form ss q b plan.reduces p plan.before.now plan.places.now plan.max_states (search_text_seen a.answer) (departure_seen a.departure))
+    (λ a. IsAnswerText form ss q b plan.reduces p plan.before.now plan.places.now plan.max_states (search_text_seen a.answer) (departure_seen a.departure)) (λ a h. (None, before, h)) c.answer_by_search.ensures

@@ -23,13 +23,13 @@ returns g c =
     let sessions = elements_at c.args.places.now (creations p.commands) in
     let explained = λ (ss : List (Name × Name)). departure_text (form_seen q.form) ss p d in
     let names_are = ap (map (session_name_seen {A = g.row.A.Denot})) c.deref-3.ensures.value ∙ c.in_ok-names.ensures in
-    let own = subst (λ ns. IsAnswerBy q.random (form_seen q.form) (map (session_name_seen {A = g.row.A.Denot}) ns) asked b p c.args.before.now c.args.places.now q.max_states (search_text_seen r.answer) d) c.deref.ensures.value c.in_ok-answer.ensures in
+    let own = subst (λ ns. IsAnswerBy q.random (form_seen q.form) (map (session_name_seen {A = g.row.A.Denot}) ns) asked b q.reduces p c.args.before.now c.args.places.now q.max_states (search_text_seen r.answer) d) c.deref.ensures.value c.in_ok-answer.ensures in
     let grown = c.in_ok-extend_from_slice.ensures.items ∙ ap (λ xs. old ++ xs) c.deref-2.ensures.value in (
       text ++ explained sessions,
       (
         text,
         d,
-        subst (λ ss. IsAnswerBy q.random (form_seen q.form) ss asked b p c.args.before.now c.args.places.now q.max_states (search_text_seen r.answer) d) c.in_ok-names.ensures own,
+        subst (λ ss. IsAnswerBy q.random (form_seen q.form) ss asked b q.reduces p c.args.before.now c.args.places.now q.max_states (search_text_seen r.answer) d) c.in_ok-names.ensures own,
         refl,
       ),
       c.in_ok-put_departure.ensures ∙ ap (λ xs. xs ++ explained (map session_name_seen c.deref-3.result.now)) grown

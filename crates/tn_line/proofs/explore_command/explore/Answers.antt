@@ -14,8 +14,10 @@ returns c =
     c.in_ok-arg-5.ensures in
     let sixth = one_more name _ (codes "seed") c.in_ok-arg-5.field-0 c.in_ok-arg-6.field-0 c.in_ok-seed.field-0 fifth c.in_ok-seed.ensures.named.0
     c.in_ok-arg-6.ensures in
-    let seventh = one_more name _ (codes "max-states") c.in_ok-arg-6.field-0 c.in_ok-arg-7.field-0 c.max_states.result sixth c.max_states.ensures.named.0
+    let seventh = one_more name _ (codes "reduce") c.in_ok-arg-6.field-0 c.in_ok-arg-7.field-0 c.in_ok-reduce.field-0 sixth c.in_ok-reduce.ensures.0
     c.in_ok-arg-7.ensures in
-    let eighth = one_more name _ (codes "max-output") c.in_ok-arg-7.field-0 c.in_ok-arg-8.field-0 c.max_output.result seventh c.max_output.ensures.named.0
+    let eighth = one_more name _ (codes "max-states") c.in_ok-arg-7.field-0 c.in_ok-arg-8.field-0 c.max_states.result seventh c.max_states.ensures.named.0
     c.in_ok-arg-8.ensures in
-    one_more_so name _ (codes "output") c.in_ok-arg-8.field-0 c.output.result c.arg-9.result eighth c.output.ensures.0 c.arg-9.ensures
+    let ninth = one_more name _ (codes "max-output") c.in_ok-arg-8.field-0 c.in_ok-arg-9.field-0 c.max_output.result eighth c.max_output.ensures.named.0
+    c.in_ok-arg-9.ensures in
+    one_more_so name _ (codes "output") c.in_ok-arg-9.field-0 c.output.result c.arg-10.result ninth c.output.ensures.0 c.arg-10.ensures

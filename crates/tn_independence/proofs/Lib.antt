@@ -1,0 +1,2 @@
+pub mod EitherLinks
+pub mod OwnSettings
