@@ -1,5 +1,6 @@
 """Cases of the built program: summaries and JSON, worked out by hand and read by Python's json."""
 import json
+import re
 
 from harness import EXAMPLES, NO_FORMS, SEND_HI, SEND_HI_PICKS, check, parsed, run, wants
 from schemas import is_valid
@@ -39,7 +40,7 @@ SEND_HI_JSON = b"""{"session":"s1","tracer":"t1","messages":1}
 """
 
 SEND_HI_MOVE = b"""{"move":4,"pick":100,"event":"<0.100.0> send {hi,1} <0.101.0>"}
-{"move":4,"pick":100,"event":"<0.100.0> send {hi,1} <0.101.0>","session":"s1","line":"=> {trace,<0.100.0>,send,{hi,1},<0.101.0>}"}
+{"move":4,"pick":100,"event":"<0.100.0> send {hi,1} <0.101.0>","session":"s1","line":"=> {trace,<0.100.0>,send,{hi,1},<0.101.0>}","trace_message":"{trace,<0.100.0>,send,{hi,1},<0.101.0>}"}
 {"move":4,"pick":100,"event":"<0.101.0> 'receive' {hi,1}"}
 {"move":4,"pick":100,"event":"<0.101.0> 'receive' {hi,1}","session":"s1","line":"no flag 'receive'"}
 """
@@ -124,13 +125,38 @@ def values(output):
     return found
 
 
+# What the first words of a line that explains say, and the members that it has then.
+LINE_WORDS = (
+    (r"clause (\d+)(?: \(line \d+\))? fires", lambda n: {"clause": int(n), "fires": True}),
+    (r"clause (\d+)(?: \(line \d+\))? fires: (.*)", lambda n, effects: {"clause": int(n), "fires": True, "effects": effects}),
+    (
+        r"clause (\d+)(?: \(line \d+\))?: condition (\d+) is (.*)",
+        lambda n, m, value: {"clause": int(n), "fires": False, "condition": int(m), "value": value},
+    ),
+    (
+        r"clause (\d+)(?: \(line \d+\))?: condition (\d+) faults at (.*)",
+        lambda n, m, part: {"clause": int(n), "fires": False, "condition": int(m), "faults_at": part},
+    ),
+    (r"clause (\d+)(?: \(line \d+\))?: .*", lambda n: {"clause": int(n), "fires": False}),
+    (r"=> no message: (.*)", lambda why: {"trace_message": None, "why": why}),
+    (r"=> (.*)", lambda text: {"trace_message": text}),
+    (r"on a node: (.*)", lambda text: {"on_a_node": text}),
+)
+
+
+def line_members(line):
+    """The members of a line that explains, beside its text."""
+    found = ((re.fullmatch(pattern, line, re.DOTALL), members) for pattern, members in LINE_WORDS)
+    return next((members(*match.groups()) for match, members in found if match), {})
+
+
 def account(text):
     """The values of JSON that an account of sessions with bare names is, as the manual says."""
     found = []
     for line in text.decode().splitlines():
         if line.startswith("  "):
             name, _, said = line[2:].partition(": ")
-            found.append({**moved, "session": name, "line": said})
+            found.append({**moved, "session": name, "line": said, **line_members(said)})
         else:
             number, pick, event = line.split(" ", 2)
             moved = {"move": int(number), "pick": int(pick), "event": event}
@@ -172,8 +198,8 @@ def formats():
     ran = run(["explain", "--picks", "0 0 100 100", "--move", "4", "--json"], SEND_HI)
     wants("the JSON of a move", ran, 0, SEND_HI_MOVE)
     trial = ["spec", "--list", "[]", "[{'_',[],[{message,{self}}]}]"]
-    told = b"""{"line":1,"text":"clause 1 fires: message <0.100.0>"}
-{"line":2,"text":"=> a message that ends in <0.100.0>"}
+    told = b"""{"line":1,"text":"clause 1 fires: message <0.100.0>","clause":1,"fires":true,"effects":"message <0.100.0>"}
+{"line":2,"text":"=> a message that ends in <0.100.0>","trace_message":"a message that ends in <0.100.0>"}
 """
     wants("the JSON of a trial", run([*trial, "--json"]), 0, told)
     of_examples()

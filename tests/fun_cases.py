@@ -2,6 +2,7 @@
 import json
 import re
 
+from format_cases import line_members
 from harness import TEXT_BYTES, TOP, check, run, wants
 
 # Each fun, and its specification.
@@ -404,7 +405,8 @@ def in_words(fun, lines):
 
 def in_json(answers):
     """The lines of several answers as JSON lines."""
-    dumped = (json.dumps({"line": i + 1, "text": line}, separators=(",", ":")) for lines in answers for i, line in enumerate(lines))
+    rows = ({"line": i + 1, "text": line, **line_members(line)} for lines in answers for i, line in enumerate(lines))
+    dumped = (json.dumps(row, separators=(",", ":")) for row in rows)
     return "".join(f"{line}\n" for line in dumped)
 
 

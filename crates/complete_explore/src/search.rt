@@ -2,7 +2,7 @@
 ghost use Rattle.std.specs.Prelude.{◌≡◌, IfOk};
 ghost use Rattle.def_run.specs.Run.{moves};
 ghost use Rattle.tn_explore.specs.Query.{Query};
-ghost use Rattle.tn_explore.specs.SearchStates.{FollowsAllBy};
+ghost use Rattle.tn_explore.specs.SearchStates.{IsReductionFor};
 ghost use Rattle.complete_explore.specs.Explorations.{ExploreAlike, IfBoth};
 
 use std::alloc::{AllocError, Allocator};
@@ -16,7 +16,7 @@ type SearchResult<A, S> = Result<
 
 /// `tn_explore::explore` has one answer where all states are tried and there is one: the same is kept, with journals
 /// that are as long.
-pub fn explore<A: Allocator + Copy, S: SearchState<A>, R: Reduction<A, S>>(
+pub fn explore<A: Allocator + Copy, S: SearchState<A>, R: Reduction<S, S::Context>>(
     alloc: A,
     contexts: (&S::Context, &S::Context),
     filter: &S::Filter,
@@ -24,10 +24,12 @@ pub fn explore<A: Allocator + Copy, S: SearchState<A>, R: Reduction<A, S>>(
     other: S,
     max_states: usize,
 ) -> (SearchResult<A, S>, SearchResult<A, S>)
-    ensures { IfOk result.0 (λ o. IfOk result.1 (λ r. IfBoth o r (λ e f. (a : Query) →
-        S.is_of contexts.entry.0.now one a → S.is_of contexts.entry.1.now other a → S.filters filter.now a →
-        FollowsAllBy R.leaves_out a → S.journal one ≡ moves a.program a.before →
-        S.journal other ≡ moves a.program a.before →
+    ensures { let x = contexts.entry.0.now in let y = contexts.entry.1.now in
+        IfOk result.0 (λ o. IfOk result.1 (λ r. IfBoth o r (λ e f. (a : Query) →
+        S.is_of x one a → S.is_of y other a → S.filters filter.now a →
+        IsReductionFor S.journal (S.is_of x) R.leaves_out (R.goes_first x) R.room a →
+        IsReductionFor S.journal (S.is_of y) R.leaves_out (R.goes_first y) R.room a →
+        S.journal one ≡ moves a.program a.before → S.journal other ≡ moves a.program a.before →
         ExploreAlike S.kept_seen e f))) }
 {
     let first = tn_explore::explore::<A, S, R>(alloc, contexts.0, filter, one, max_states);

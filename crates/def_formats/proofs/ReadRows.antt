@@ -1,16 +1,18 @@
 -- The rows of JSON are read back.
-use Rattle.std.proofs.Common.{◌≡◌, ℕ, suc, ◌+◌, ◌<◌, ◌≤◌, ◌^◌, ◌&&◌, Bool, true, false, if◌then◌else◌, List, [], ◌∷◌, All, length, map, take, drop, Option, Some, None, refl, arith}
+use Rattle.std.proofs.Common.{◌≡◌, ℕ, suc, ◌+◌, ◌<◌, ◌≤◌, ◌^◌, ◌&&◌, Bool, true, false, if◌then◌else◌, List, [], ◌∷◌, All, length, map, drop, Option, Some, None, refl, arith}
 use Rattle.std.proofs.lemmas.Bool.{and_parts}
 use Rattle.std.proofs.lemmas.List.Elements.{All-nil, All-cons, All-head, All-tail}
-use Rattle.json.specs.Json.{Json, null, number, string, array, object, Members, no_members, member}
+use Rattle.std.specs.Prelude.{nat_eq, codes}
+use Rattle.std.specs.List.{starts_with}
+use Rattle.json.specs.Json.{Json, null, boolean, number, string, array, object, Members, no_members, member}
 use Rattle.json.specs.Word.{after_number}
 use Rattle.json.specs.Tree.{depth, items_depth, members_depth, HasNumbers, ItemsHaveNumbers, MembersHaveNumbers}
 use Rattle.json.proofs.Printed.Trees.{document-print}
 use Rattle.json.proofs.Printed.Decimals.{IsNumber-decimal}
-use Rattle.def_formats.specs.Lines.{message_kind, message_pid, before_byte, past_byte, atom_length}
+use Rattle.def_formats.specs.Lines.{message_kind, message_pid, before_byte, past_byte}
 use Rattle.def_formats.specs.Sections.{session_section, replies_section, journal_section}
 use Rattle.def_formats.specs.Summaries.{journal_picks}
-use Rattle.def_formats.specs.JsonRows.{are_ascii, text_value, number_value, is_whole, numeral_value, items_from, numbered_rows, message_row, reply_row, line_row, journal_row, account_rows, is_indented, move_row, made_row}
+use Rattle.def_formats.specs.JsonRows.{are_ascii, text_value, number_value, is_whole, numeral_value, items_from, numbered_rows, message_row, reply_row, line_row, journal_row, account_rows, is_indented, move_row, made_row, members_from, front_number, past_number, past_place, value_members, condition_value, why_members, condition_members, fires_members, arrow_members, line_members, front_name, past_name}
 use Rattle.def_formats.specs.RefusalRows.{refusal_number, noted_place, place_value}
 use Rattle.def_formats.specs.Laws.{IsReadBack, OutputRowsAreRead, AccountRowsAreRead, TextRowsAreRead, RefusalRowIsRead}
 
@@ -57,6 +59,38 @@ object_so k (member name v ms) h = let rest = object_so k ms h.1 in ((h.0.number
 object_read : (k : ℕ) (ms : Members) → k < 128 → AreShallow k ms → IsReadBack (object ms)
 object_read k ms small h = let parts = object_so k ms h in read_so (suc k) (object ms) (omega (arith, small)) (record { numbers = parts.0; deep = omega (arith, parts.1) })
 
+-- ---- the members of a line that explains
+
+word_leaf : (b : Bool) → IsShallow 0 (boolean b)
+word_leaf b = record { numbers = tt; deep = omega arith }
+
+null_leaf : IsShallow 0 null
+null_leaf = record { numbers = tt; deep = omega arith }
+
+either : (b : Bool) (ms ns : List (List ℕ × Json)) → AreShallow 0 (members_from ms) → AreShallow 0 (members_from ns) → AreShallow 0 (members_from (if b then ms else ns))
+either true ms ns h k = h
+either false ms ns h k = k
+
+value_leaves : (text : List ℕ) → AreShallow 0 (members_from (value_members text))
+value_leaves text = either (starts_with nat_eq text (codes " is ")) _ _ (text_leaf (drop 4 text), tt) (either (starts_with nat_eq text (codes " faults at ")) _ [] (text_leaf (drop 11 text), tt) tt)
+
+condition_leaves : (text : List ℕ) → AreShallow 0 (members_from (condition_members text))
+condition_leaves text = either (starts_with nat_eq text (codes ": condition ")) (condition_value (drop 12 text)) [] (numeral_leaf (front_number (drop 12 text)), value_leaves (past_number (drop 12 text))) tt
+
+fires_leaves : (text : List ℕ) → AreShallow 0 (members_from (fires_members text))
+fires_leaves text =
+    either (starts_with nat_eq text (codes " fires")) _ _
+    (word_leaf true, either (starts_with nat_eq (drop 6 text) (codes ": ")) _ [] (text_leaf (drop 2 (drop 6 text)), tt) tt)
+    (word_leaf false, condition_leaves text)
+
+arrow_leaves : (text : List ℕ) → AreShallow 0 (members_from (arrow_members text))
+arrow_leaves text = either (starts_with nat_eq text (codes "no message: ")) (why_members (drop 12 text)) _ (null_leaf, (text_leaf (drop 12 text), tt)) (text_leaf text, tt)
+
+line_leaves : (line : List ℕ) → AreShallow 0 (members_from (line_members line))
+line_leaves line =
+    either (starts_with nat_eq line (codes "clause ")) _ _ (numeral_leaf (front_number (drop 7 line)), fires_leaves (past_place (past_number (drop 7 line))))
+    (either (starts_with nat_eq line (codes "=> ")) _ _ (arrow_leaves (drop 3 line)) (either (starts_with nat_eq line (codes "on a node: ")) _ [] (text_leaf (drop 11 line), tt) tt))
+
 items_so : (k : ℕ) (vs : List Json) → All (IsShallow k) vs → ItemsHaveNumbers (items_from vs) × (items_depth (items_from vs) ≤ k)
 items_so k [] h = (tt, omega arith)
 items_so k (v ∷ vs) h =
@@ -78,7 +112,7 @@ reply_read : (n : ℕ) (line : List ℕ) → n < 2 ^ 64 → IsReadBack (reply_ro
 reply_read n line small = object_read 0 _ (omega arith) (number_leaf n small, (text_leaf line, tt))
 
 line_read : (n : ℕ) (line : List ℕ) → n < 2 ^ 64 → IsReadBack (line_row n line)
-line_read n line small = object_read 0 _ (omega arith) (number_leaf n small, (text_leaf line, tt))
+line_read n line small = object_read 0 _ (omega arith) (number_leaf n small, (text_leaf line, line_leaves line))
 
 message_read : (name tracer : List ℕ) (n : ℕ) (line : List ℕ) → n < 2 ^ 64 → IsReadBack (message_row name tracer n line)
 message_read name tracer n line small =
@@ -106,7 +140,7 @@ move_read line = object_read 0 _ (omega arith) (numeral_leaf (before_byte 32 lin
 made_read : (move line : List ℕ) → IsReadBack (made_row move line)
 made_read move line =
     object_read 0 _ (omega arith)
-    (numeral_leaf (before_byte 32 move), (numeral_leaf (before_byte 32 (past_byte 32 move)), (text_leaf (past_byte 32 (past_byte 32 move)), (text_leaf (take (atom_length (drop 2 line)) (drop 2 line)), (text_leaf (drop (atom_length (drop 2 line) + 2) (drop 2 line)), tt)))))
+    (numeral_leaf (before_byte 32 move), (numeral_leaf (before_byte 32 (past_byte 32 move)), (text_leaf (past_byte 32 (past_byte 32 move)), (text_leaf (front_name (drop 2 line)), (text_leaf (past_name (drop 2 line)), line_leaves (past_name (drop 2 line)))))))
 
 one_account_row : (move l : List ℕ) (ls : List (List ℕ)) (b : Bool) → All IsReadBack (account_rows move ls) → All IsReadBack (account_rows l ls)
     → All IsReadBack (if b then made_row move l ∷ account_rows move ls else move_row l ∷ account_rows l ls)

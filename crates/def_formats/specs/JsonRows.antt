@@ -1,8 +1,8 @@
 -- An output, an account and the answer of a trial as JSON, a value a line (own).
 -- Depends on the sections of an output, on the parts of a trace message's text and on the JSON of RFC 8259, by the kit's `json`.
-use Rattle.std.specs.Prelude.{ℕ, suc, ◌+◌, nat_eq, nat_lt, Bool, true, false, ◌&&◌, if◌then◌else◌, List, [], ◌∷◌, ◌++◌, length, map, flat_map, take, drop, Option, Some, None, codes, decimal}
-use Rattle.std.specs.List.{list_all, starts_with}
-use Rattle.json.specs.Json.{Json, null, number, string, array, object, Items, no_items, item, Members, no_members, member}
+use Rattle.std.specs.Prelude.{ℕ, suc, ◌+◌, ◌==◌, nat_eq, nat_lt, Bool, true, false, ◌&&◌, ◌||◌, if◌then◌else◌, List, [], ◌∷◌, ◌++◌, length, map, flat_map, take, drop, Option, Some, None, codes, decimal}
+use Rattle.std.specs.List.{list_all, starts_with, before_first, position_or_len}
+use Rattle.json.specs.Json.{Json, null, boolean, number, string, array, object, Items, no_items, item, Members, no_members, member}
 use Rattle.json.specs.Word.{after_number}
 use Rattle.json.specs.Print.{print}
 use Rattle.json.specs.Tree.{json_tokens}
@@ -88,6 +88,69 @@ section_json head lines = json_lines (rows_by (section_of head) lines)
 abbrev pub output_json : List ℕ → List ℕ
 output_json output = by_sections section_json (text_lines output)
 
+-- ---- a line that explains
+
+-- a colon or a blank is after a number
+abbrev pub ends_number : ℕ → Bool
+ends_number b = (b == 58) || (b == 32)
+
+-- the number at the front of a text, and what is after it
+abbrev pub front_number : List ℕ → List ℕ
+front_number text = before_first ends_number text
+
+abbrev pub past_number : List ℕ → List ℕ
+past_number text = drop (position_or_len ends_number text) text
+
+-- the effects of a clause that fires, where it has some: after a colon
+abbrev pub effects_members : List ℕ → List (List ℕ × Json)
+effects_members text = if starts_with nat_eq text (codes ": ") then (codes "effects", text_value (drop 2 text)) ∷ [] else []
+
+-- the value of a condition, or the part of it that has none
+abbrev pub value_members : List ℕ → List (List ℕ × Json)
+value_members text =
+    if starts_with nat_eq text (codes " is ") then (codes "value", text_value (drop 4 text)) ∷ []
+    else (if starts_with nat_eq text (codes " faults at ") then (codes "faults_at", text_value (drop 11 text)) ∷ [] else [])
+
+-- the number of a condition, and its value
+abbrev pub condition_value : List ℕ → List (List ℕ × Json)
+condition_value text = (codes "condition", numeral_value (front_number text)) ∷ value_members (past_number text)
+
+-- the condition by which a clause doesn't fire, where it is one
+abbrev pub condition_members : List ℕ → List (List ℕ × Json)
+condition_members text = if starts_with nat_eq text (codes ": condition ") then condition_value (drop 12 text) else []
+
+-- whether a clause fires, with its effects or its condition
+abbrev pub fires_members : List ℕ → List (List ℕ × Json)
+fires_members text =
+    if starts_with nat_eq text (codes " fires") then (codes "fires", boolean true) ∷ effects_members (drop 6 text)
+    else (codes "fires", boolean false) ∷ condition_members text
+
+-- what is after the line of a clause of a fun, where that is said
+abbrev pub past_place : List ℕ → List ℕ
+past_place text = if starts_with nat_eq text (codes " (line ") then past_byte 41 text else text
+
+-- the number of a clause, and whether it fires
+abbrev pub clause_members : List ℕ → List (List ℕ × Json)
+clause_members text = (codes "clause", numeral_value (front_number text)) ∷ fires_members (past_place (past_number text))
+
+-- no trace message, and why
+abbrev pub why_members : List ℕ → List (List ℕ × Json)
+why_members text = (codes "trace_message", null) ∷ (codes "why", text_value text) ∷ []
+
+-- the trace message, or why there is none
+abbrev pub arrow_members : List ℕ → List (List ℕ × Json)
+arrow_members text = if starts_with nat_eq text (codes "no message: ") then why_members (drop 12 text) else (codes "trace_message", text_value text) ∷ []
+
+-- what a running node does otherwise, where the line says it
+abbrev pub node_members : List ℕ → List (List ℕ × Json)
+node_members line = if starts_with nat_eq line (codes "on a node: ") then (codes "on_a_node", text_value (drop 11 line)) ∷ [] else []
+
+-- what the line says, by its first words; nothing where it has others
+abbrev pub line_members : List ℕ → List (List ℕ × Json)
+line_members line =
+    if starts_with nat_eq line (codes "clause ") then clause_members (drop 7 line)
+    else (if starts_with nat_eq line (codes "=> ") then arrow_members (drop 3 line) else node_members line)
+
 -- ---- an account
 
 -- what a session makes of a move is indented
@@ -104,11 +167,18 @@ move_members line =
 abbrev pub move_row : List ℕ → Json
 move_row line = object_from (move_members line)
 
--- {"move":N,"pick":PICK,"event":EVENT,"session":NAME,"line":LINE}: what the session makes of it is after its name and `: `
+-- the name of a session is at the front of its line, and what it makes of the move after the name and `: `
+abbrev pub front_name : List ℕ → List ℕ
+front_name text = take (atom_length text) text
+
+abbrev pub past_name : List ℕ → List ℕ
+past_name text = drop (atom_length text + 2) text
+
+-- {"move":N,"pick":PICK,"event":EVENT,"session":NAME,"line":LINE,..}
 abbrev pub made_row : (move line : List ℕ) → Json
 made_row move line =
     let rest : List ℕ = drop 2 line in
-    object_from (move_members move ++ (codes "session", text_value (take (atom_length rest) rest)) ∷ (codes "line", text_value (drop (atom_length rest + 2) rest)) ∷ [])
+    object_from (move_members move ++ (codes "session", text_value (front_name rest)) ∷ (codes "line", text_value (past_name rest)) ∷ line_members (past_name rest))
 
 -- a row for each line, with the move before it
 abbrev pub account_rows : List ℕ → List (List ℕ) → List Json
@@ -120,9 +190,9 @@ account_json text = json_lines (account_rows [] (text_lines text))
 
 -- ---- any other text
 
--- {"line":N,"text":TEXT}
+-- {"line":N,"text":TEXT,..}
 abbrev pub line_row : ℕ → List ℕ → Json
-line_row n line = object_from ((codes "line", number_value n) ∷ (codes "text", text_value line) ∷ [])
+line_row n line = object_from ((codes "line", number_value n) ∷ (codes "text", text_value line) ∷ line_members line)
 
 abbrev pub text_json : List ℕ → List ℕ
 text_json text = json_lines (numbered_rows line_row 1 (text_lines text))

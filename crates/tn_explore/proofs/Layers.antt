@@ -6,7 +6,7 @@ use Rattle.def_explore.proofs.Lists.{one_after, each_both}
 use Rattle.def_explore.proofs.Alike.{alike_same}
 use Rattle.def_run.specs.Run.{moves}
 use Rattle.tn_explore.specs.Query.{Query, AlikeFor, HasStateFor, HasJournalRoom}
-use Rattle.tn_explore.specs.SearchStates.{AreSame, HasRoom}
+use Rattle.tn_explore.specs.SearchStates.{AreSame}
 use Rattle.tn_explore.specs.Searches.{IsAt, AreAt, HasSame, AddsState, LayerHasRoom}
 use Rattle.tn_explore.proofs.Lists.{one_at, each_at, one_mapped}
 
@@ -31,12 +31,14 @@ module _ {S : Type 0} (Journal : S → List ℕ) (IsOf : S → Query → Type 0)
   }
 
   -- a layer has room where its first state has
-  pub room_at : (leaves_out : Bool) (ss : List S) (s : S) → Some s ≡ slice_get ss 0 → (b : Bool) → HasRoom Journal IsOf leaves_out s b → LayerHasRoom Journal IsOf leaves_out ss b
-  room_at leaves_out ss s is false room = room
-  room_at leaves_out [] s is true room = λ out a depth at. inl refl
-  room_at leaves_out (x ∷ xs) s is true room = λ out a depth at.
+  pub room_at : (a : Query) (ss : List S) (s : S) → Some s ≡ slice_get ss 0 → (IsOf s a → HasJournalRoom a (Journal s)) → LayerHasRoom Journal IsOf a ss
+  room_at a [] s is room = λ depth at. inl refl
+  room_at a (x ∷ xs) s is room = λ depth at.
       let here : IsAt Journal IsOf a depth s = subst (IsAt Journal IsOf a depth) (sym (ap (λ o. unwrap_or o s) is)) at.0 in
-      let left : HasJournalRoom a (Journal s) = room out a here.is_of in
+      let left : HasJournalRoom a (Journal s) = room here.is_of in
       let moved : length (moves a.program (Journal s)) ≡ length (Journal s) = ap length here.from.from.moved in
       let long : length (Journal s) ≡ depth = here.long in
       inr (omega arith)
+
+  pub no_states : (a : Query) (ss : List S) → ss ≡ [] → LayerHasRoom Journal IsOf a ss
+  no_states a ss none = λ depth at. inl none

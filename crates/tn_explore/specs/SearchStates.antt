@@ -31,23 +31,16 @@ abbrev pub AreEnough : Bool → Query → (journal picks : List ℕ) → Type 0
 AreEnough false a journal picks = HaveAllMoves a journal picks
 AreEnough true a journal picks = HaveAllMoves a journal picks ⊎ AreFirstFor a journal picks
 
--- where picks are left out every run is followed
-abbrev pub FollowsAllBy : Bool → Query → Type 0
-FollowsAllBy leaves_out a = leaves_out ≡ true → (kept : KeptMessages) → a.admits kept ≡ true
-
--- picks are left out, and this one is independent of all others after the state
-pub record LeavesOutOthers {S : Type 0} (Journal : S → List ℕ) (IsOf : S → Query → Type 0) (leaves_out : Bool) (s : S) (pick : ℕ) : Type 0 where
-  pub left : leaves_out ≡ true
-  pub first : (a : Query) → IsOf s a → FollowsAllBy leaves_out a → AreFirstFor a (Journal s) (pick ∷ [])
+-- for what is asked: picks that are known to go first are independent of all others, and are left out alone; and journals that are known to have room have it
+pub record IsReductionFor {S : Type 0} (Journal : S → List ℕ) (IsOf : S → Query → Type 0) (leaves_out : Bool) (First : S → ℕ → Type 0) (Room : S → Type 0) (a : Query) : Type 0 where
+  pub left : (s : S) (pick : ℕ) → First s pick → leaves_out ≡ true
+  pub first : (s : S) (pick : ℕ) → First s pick → IsOf s a → AreFirstFor a (Journal s) (pick ∷ [])
+  pub room : (s : S) → Room s → IsOf s a → HasJournalRoom a (Journal s)
 
 -- the picks that are tried after the state
-abbrev pub HasEnoughPicks : {S : Type 0} → (S → List ℕ) → (S → Query → Type 0) → Bool → S → List ℕ → Type 0
-HasEnoughPicks Journal IsOf leaves_out s picks = (a : Query) → IsOf s a → FollowsAllBy leaves_out a → AreEnough leaves_out a (Journal s) picks
-
--- its journal has room, or picks are left out and it may have none
-abbrev pub HasRoom : {S : Type 0} → (S → List ℕ) → (S → Query → Type 0) → Bool → S → Bool → Type 0
-HasRoom Journal IsOf leaves_out s true = leaves_out ≡ true → (a : Query) → IsOf s a → HasJournalRoom a (Journal s)
-HasRoom Journal IsOf leaves_out s false = leaves_out ≡ true
+abbrev pub HasEnoughPicks : {S : Type 0} → (S → List ℕ) → (S → Query → Type 0) → Bool → (S → ℕ → Type 0) → (S → Type 0) → S → List ℕ → Type 0
+HasEnoughPicks Journal IsOf leaves_out First Room s picks =
+    (a : Query) → IsOf s a → IsReductionFor Journal IsOf leaves_out First Room a → AreEnough leaves_out a (Journal s) picks
 
 -- both are the same state
 abbrev pub AreSame : {S : Type 0} → (S → List ℕ) → (S → Query → Type 0) → S → S → Bool → Type 0

@@ -94,10 +94,9 @@ pub record TriesLayer {S : Type 0} (Journal : S → List ℕ) (IsOf : S → Quer
   pub all : IsTrue complete → done ≡ tried ++ map Journal ss
   pub stops : complete ≡ false → room ≤ length new
 
--- a layer without states, or with journals that have room; or picks are left out, and a journal may have none
-abbrev pub LayerHasRoom : {S : Type 0} → (S → List ℕ) → (S → Query → Type 0) → Bool → List S → Bool → Type 0
-LayerHasRoom Journal IsOf leaves_out ss true = leaves_out ≡ true → (a : Query) (depth : ℕ) → AreAt Journal IsOf a depth ss → (ss ≡ []) ⊎ (depth < JOURNAL)
-LayerHasRoom Journal IsOf leaves_out ss false = leaves_out ≡ true
+-- a layer without states, or with journals that have room for a pick more
+abbrev pub LayerHasRoom : {S : Type 0} → (S → List ℕ) → (S → Query → Type 0) → Query → List S → Type 0
+LayerHasRoom Journal IsOf a ss = (depth : ℕ) → AreAt Journal IsOf a depth ss → (ss ≡ []) ⊎ (depth < JOURNAL)
 
 -- so many journals go on from the first picks and are followed, or more than are counted; where all were tried and no picks are left out, they have all states
 pub record CountsStates (left : Bool) (a : Query) (states : ℕ) (complete : Bool) : Type 0 where

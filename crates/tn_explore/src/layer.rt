@@ -20,8 +20,9 @@ pub struct Layer<A: Allocator, S> {
 }
 
 impl<A: Allocator + Copy, S: SearchState<A>> Layer<A, S> {
-    ghost use Rattle.std.specs.Prelude.{[], ◌∷◌, ◌++◌};
+    ghost use Rattle.std.specs.Prelude.{[], ◌∷◌, ◌++◌, true, false, IsTrue};
     ghost use Rattle.tn_explore.specs.Query.{Query};
+    ghost use Rattle.tn_explore.specs.SearchStates.{IsReductionFor};
     ghost use Rattle.tn_explore.specs.Searches.{IsAt, AreAt, HasSame, AddsState, LayerHasRoom};
 
     /// No state.
@@ -62,9 +63,12 @@ impl<A: Allocator + Copy, S: SearchState<A>> Layer<A, S> {
         false
     }
 
-    /// Whether the journals of its states have room for a pick more, where picks are left out.
-    pub fn has_room<R: Reduction<A, S>>(&self) -> bool
-        ensures { (x : S.Context) → LayerHasRoom S.journal (S.is_of x) R.leaves_out self.now.states.items result }
+    /// Whether the journals of its states have room for a pick more. Where no pick is left out it is true.
+    pub fn has_room<R: Reduction<S, S::Context>>(&self) -> bool
+        ensures fits { (x : S.Context) (a : Query) →
+            IsReductionFor S.journal (S.is_of x) R.leaves_out (R.goes_first x) R.room a → IsTrue result →
+            R.leaves_out ≡ true → LayerHasRoom S.journal (S.is_of x) a self.now.states.items }
+        ensures full { result ≡ false → R.leaves_out ≡ true }
     {
         match self.states.first() {
             Some(state) => R::has_room(state),

@@ -1,37 +1,42 @@
 // Which picks of a state are tried: all, or one that goes before the others.
-use crate::search_state::SearchState;
-use std::alloc::{AllocError, Allocator};
+use std::alloc::AllocError;
 
-/// Which picks are left out of a search, since one goes before them that is independent of all others.
-pub trait Reduction<A: Allocator, S: SearchState<A>> {
-    ghost use Rattle.std.specs.Prelude.{Bool, IfOk, IfSome};
-    ghost use Rattle.tn_explore.specs.SearchStates.{HasRoom, LeavesOutOthers};
+/// Which picks are left out of a search over states in a context, since one goes before them.
+pub trait Reduction<S, C> {
+    ghost use Rattle.std.specs.Prelude.{◌≡◌, ℕ, Bool, true, false, IfOk, IfSome, IsTrue};
 
     /// Whether picks are left out.
     ghost leaves_out: { Bool };
 
-    /// One of some picks after a state that is independent of all others. None where none is known.
-    fn first_pick(context: &S::Context, state: &S, picks: &[u32]) -> Result<Option<u32>, AllocError>
-        ensures { IfOk result (λ o. IfSome o (LeavesOutOthers S.journal (S.is_of context.now) leaves_out state.now)) };
+    /// What is known of a pick that goes before all others after a state.
+    ghost goes_first: { C → S → ℕ → Type 0 };
 
-    /// Whether the journal of a state has room for a pick more. Where no pick is left out it may be true of any.
+    /// What is known of a state whose journal has room for a pick more.
+    ghost room: { S → Type 0 };
+
+    /// One of some picks after a state, which goes before all others. None where none is known.
+    fn first_pick(context: &C, state: &S, picks: &[u32]) -> Result<Option<u32>, AllocError>
+        ensures { IfOk result (λ o. IfSome o (goes_first context.now state.now)) };
+
+    /// Whether the journal of a state has room for a pick more. Where no pick is left out it is true.
     fn has_room(state: &S) -> bool
-        ensures { (x : S.Context) → HasRoom S.journal (S.is_of x) leaves_out state.now result };
+        ensures fits { IsTrue result → leaves_out ≡ true → room state.now }
+        ensures full { result ≡ false → leaves_out ≡ true };
 }
 
 /// No pick is left out.
 pub struct AllPicks;
 
-impl<A: Allocator, S: SearchState<A>> Reduction<A, S> for AllPicks {
-    ghost use Rattle.std.specs.Prelude.{false};
+impl<S, C> Reduction<S, C> for AllPicks {
+    ghost use Rattle.std.specs.Prelude.{◌≡◌, true, false};
 
     ghost leaves_out = { false };
 
-    fn first_pick(
-        context: &S::Context,
-        state: &S,
-        picks: &[u32],
-    ) -> Result<Option<u32>, AllocError> {
+    ghost goes_first = { λ context state pick. false ≡ true };
+
+    ghost room = { λ state. false ≡ true };
+
+    fn first_pick(context: &C, state: &S, picks: &[u32]) -> Result<Option<u32>, AllocError> {
         Ok(None)
     }
 

@@ -3,7 +3,7 @@ ghost use Rattle.std.specs.Prelude.{◌≡◌, ◌+◌, ℕ, List, [], ◌∷◌
 ghost use Rattle.def_explore.specs.Answers.{RestEntry};
 ghost use Rattle.def_run.specs.Run.{moves};
 ghost use Rattle.tn_explore.specs.Query.{Query, AdmitsFor};
-ghost use Rattle.tn_explore.specs.SearchStates.{FollowsAllBy, HasEnoughPicks};
+ghost use Rattle.tn_explore.specs.SearchStates.{IsReductionFor, HasEnoughPicks};
 ghost use Rattle.tn_explore.specs.Searches.{IsAt, AreAt, Tries, TriesState, TriesLayer, HaveTried, AnswersEnd};
 ghost use Rattle.tn_explore.specs.Searches.{Explores, answer_entries};
 
@@ -73,13 +73,14 @@ fn pick_alone<A: Allocator>(alloc: A, pick: u32) -> Result<Vec<u32, A>, AllocErr
 }
 
 /// The picks that are tried after a state: those that may move, or one that goes before the others.
-fn picks_to_try<A: Allocator + Copy, S: SearchState<A>, R: Reduction<A, S>>(
+fn picks_to_try<A: Allocator + Copy, S: SearchState<A>, R: Reduction<S, S::Context>>(
     alloc: A,
     context: &S::Context,
     state: &S,
 ) -> Result<Vec<u32, A>, AllocError>
     ensures { IfOk result (λ v.
-        HasEnoughPicks S.journal (S.is_of context.now) R.leaves_out state.now v.items) }
+        HasEnoughPicks S.journal (S.is_of context.now) R.leaves_out (R.goes_first context.now) R.room
+        state.now v.items) }
 {
     let picks = state.picks(alloc, context)?;
     match R::first_pick(context, state, &picks)? {
@@ -89,14 +90,15 @@ fn picks_to_try<A: Allocator + Copy, S: SearchState<A>, R: Reduction<A, S>>(
 }
 
 /// Tries the picks after a state that are tried. Where none moves, or what is kept is not admitted, it is answered.
-fn try_state<A: Allocator + Copy, S: SearchState<A>, R: Reduction<A, S>>(
+fn try_state<A: Allocator + Copy, S: SearchState<A>, R: Reduction<S, S::Context>>(
     context: &S::Context,
     filter: &S::Filter,
     state: &S,
     next: &mut Layer<A, S>,
     answers: &mut Answers<A, S::Observation>,
 ) -> Result<(), AllocError>
-    ensures { IfOk result (λ _. (a : Query) (depth : ℕ) → S.filters filter.now a → FollowsAllBy R.leaves_out a →
+    ensures { IfOk result (λ _. (a : Query) (depth : ℕ) → S.filters filter.now a →
+        IsReductionFor S.journal (S.is_of context.now) R.leaves_out (R.goes_first context.now) R.room a →
         AreAt S.journal (S.is_of context.now) a (depth + 1) next.old.states.items →
         IsAt S.journal (S.is_of context.now) a depth state.now →
         TriesState S.journal (S.is_of context.now) R.leaves_out a (depth + 1) state.now
@@ -117,7 +119,7 @@ fn try_state<A: Allocator + Copy, S: SearchState<A>, R: Reduction<A, S>>(
 
 /// Tries each state of a layer, while the next has fewer than so many states: whether all were tried. Each is gone once
 /// it was tried, so that the memory of one layer is taken by the next.
-fn try_layer<A: Allocator + Copy, S: SearchState<A>, R: Reduction<A, S>>(
+fn try_layer<A: Allocator + Copy, S: SearchState<A>, R: Reduction<S, S::Context>>(
     context: &S::Context,
     filter: &S::Filter,
     states: Vec<S, A>,
@@ -126,7 +128,9 @@ fn try_layer<A: Allocator + Copy, S: SearchState<A>, R: Reduction<A, S>>(
     room: usize,
 ) -> Result<bool, AllocError>
     ensures { IfOk result (λ complete. (a : Query) (depth : ℕ) (tried : List (List ℕ)) →
-        S.filters filter.now a → FollowsAllBy R.leaves_out a → next.old.states.items ≡ [] →
+        S.filters filter.now a →
+        IsReductionFor S.journal (S.is_of context.now) R.leaves_out (R.goes_first context.now) R.room a →
+        next.old.states.items ≡ [] →
         AreAt S.journal (S.is_of context.now) a depth states.items →
         HaveTried R.leaves_out a depth (tried ++ map S.journal states.items) tried
         (answer_entries S.kept_seen answers.old.entries) →
@@ -161,7 +165,7 @@ pub struct Exploration<A: Allocator, M: Eq + Hash> {
 /// Tries all states from the first on, until so many were met. A run that is not admitted ends there. None where picks
 /// are left out and a journal may have no room for a pick more: the search that leaves out none answers then. An error
 /// is refused memory.
-pub fn explore<A: Allocator + Copy, S: SearchState<A>, R: Reduction<A, S>>(
+pub fn explore<A: Allocator + Copy, S: SearchState<A>, R: Reduction<S, S::Context>>(
     alloc: A,
     context: &S::Context,
     filter: &S::Filter,
@@ -169,7 +173,8 @@ pub fn explore<A: Allocator + Copy, S: SearchState<A>, R: Reduction<A, S>>(
     max_states: usize,
 ) -> Result<Option<Exploration<A, S::Observation>>, AllocError>
     ensures some { IfOk result (λ o. IfSome o (λ e. (a : Query) →
-        S.is_of context.now first a → S.filters filter.now a → FollowsAllBy R.leaves_out a →
+        S.is_of context.now first a → S.filters filter.now a →
+        IsReductionFor S.journal (S.is_of context.now) R.leaves_out (R.goes_first context.now) R.room a →
         S.journal first ≡ moves a.program a.before →
         Explores R.leaves_out a (answer_entries S.kept_seen e.answers.entries) max_states
         e.states e.is_complete)) }

@@ -3,3 +3,4 @@ pub mod LineLemmas
 mod PickLemmas
 mod Appends
 mod AsciiLemmas
+mod MemberTokens

@@ -1,5 +1,6 @@
 -- What a writer of JSON gains (own).
 use Rattle.std.specs.Prelude.{◌≡◌, ℕ, List, [], ◌∷◌, ◌++◌, Result, OnOk, codes, decimal}
+use Rattle.json.specs.Json.{Json}
 use Rattle.json.specs.Token.{Token, key, number}
 use Rattle.json.specs.Tree.{json_tokens}
 use Rattle.json.specs.Written.{Written}
@@ -25,6 +26,11 @@ numeral_member name text = key name ∷ json_tokens (numeral_value text)
 
 abbrev pub number_member : List ℕ → ℕ → List Token
 number_member name n = key name ∷ number (decimal n) ∷ []
+
+-- of members and their values
+abbrev pub tokens_of_members : List (List ℕ × Json) → List Token
+tokens_of_members [] = []
+tokens_of_members (m ∷ ms) = key m.0 ∷ (json_tokens m.1 ++ tokens_of_members ms)
 
 -- of a session
 abbrev pub session_tokens : (name tracer : List ℕ) → List Token

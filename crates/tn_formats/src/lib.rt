@@ -8,6 +8,7 @@
 mod atom;
 mod format;
 mod json_lines;
+mod line_members;
 mod lines;
 mod load;
 mod longest;

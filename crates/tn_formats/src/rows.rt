@@ -8,6 +8,7 @@ ghost use Rattle.def_formats.specs.JsonRows.{move_row, made_row};
 ghost use Rattle.tn_formats.specs.Tokens.{AddsTokens, session_tokens, message_tokens, move_tokens};
 
 use crate::atom::cut_atom;
+use crate::line_members::put_line_members;
 use crate::parts::{cut_at, message_parts, without_front};
 use crate::values::{put_number_member, put_numeral_member, put_text_member};
 use json::Writer;
@@ -165,6 +166,7 @@ pub(crate) fn put_line_row<A: Allocator>(
     let mut writer = begin_row(row)?;
     put_number_member(&mut writer, "line", number)?;
     put_text_member(&mut writer, "text", line)?;
+    put_line_members(&mut writer, line)?;
     end_row(lines, writer)
 }
 
@@ -228,5 +230,6 @@ pub(crate) fn put_made_row<A: Allocator>(
     put_move(&mut writer, move_parts(move_line))?;
     put_text_member(&mut writer, "session", name)?;
     put_text_member(&mut writer, "line", said)?;
+    put_line_members(&mut writer, said)?;
     end_row(lines, writer)
 }

@@ -1,7 +1,7 @@
 // Values of JSON, and members of an object.
 ghost use Rattle.std.specs.Prelude.{◌≡◌, ◌∷◌, [], MatchOption, false, true, if◌then◌else◌, decimal, map};
 ghost use Rattle.json.specs.Json.{array};
-ghost use Rattle.json.specs.Token.{boolean, key, number, string};
+ghost use Rattle.json.specs.Token.{boolean, key, null, number, string};
 ghost use Rattle.json.specs.Word.{after_number};
 ghost use Rattle.json.specs.Tree.{json_tokens};
 ghost use Rattle.def_formats.specs.JsonRows.{are_ascii, is_whole, items_from, number_value, numeral_value, text_value};
@@ -125,6 +125,17 @@ pub fn put_boolean_member<A: Allocator>(
 {
     writer.key(name)?;
     writer.boolean(value)
+}
+
+/// Writes a member that is null.
+pub(crate) fn put_null_member<A: Allocator>(
+    writer: &mut Writer<A>,
+    name: &str,
+) -> Result<(), AllocError>
+    ensures { AddsTokens result writer.old writer.new (key name.now ∷ null ∷ []) }
+{
+    writer.key(name)?;
+    writer.null()
 }
 
 /// Writes numbers as an array.

@@ -163,12 +163,17 @@ fn first_pick<A: Allocator + Copy, K: SearchSink<A> + Drop, F: RunFilter<A>>(
 pub(crate) struct FirstPicks;
 
 impl<A: Allocator + Copy, K: SearchSink<A> + Drop, F: RunFilter<A>> Reduction<
-    A,
     ProgramState<A, K, F>,
+    Program<A>,
 > for FirstPicks {
     ghost use Rattle.std.specs.Prelude.{true};
+    ghost use Rattle.tn_search.specs.FirstPicks.{IsFirstPick, HasStateRoom};
 
     ghost leaves_out = { true };
+
+    ghost goes_first = { IsFirstPick K.keeps K.is_by_process };
+
+    ghost room = { HasStateRoom };
 
     fn first_pick(
         context: &Program<A>,
@@ -179,10 +184,6 @@ impl<A: Allocator + Copy, K: SearchSink<A> + Drop, F: RunFilter<A>> Reduction<
     }
 
     fn has_room(state: &ProgramState<A, K, F>) -> bool {
-        let made = state.run.journal().len();
-        if made >= JOURNAL {
-            return false;
-        }
-        true
+        state.run.journal().len() < JOURNAL
     }
 }

@@ -1,9 +1,9 @@
-use Rattle.std.proofs.Common.{◌≡◌, ◌+◌, min, ap, sym, subst, [], ◌∙◌, length, arith}
+use Rattle.std.proofs.Common.{true, ◌≡◌, ◌+◌, min, ap, sym, subst, [], ◌∙◌, length, arith}
 use Rattle.std.specs.Prelude.{vec_len}
 use Rattle.std.proofs.lemmas.Bool.{eqb-true}
 use Rattle.def_run.specs.Run.{start}
 use Rattle.def_run.proofs.Replay.{moves_again}
-use Rattle.tn_explore.specs.Searches.{AreAt, LayerHasRoom, answer_entries}
+use Rattle.tn_explore.specs.Searches.{AreAt, answer_entries}
 use Rattle.tn_explore.proofs.Searches.{Before, first_at, before_all, before_next, tried_layer, explored, explored_part, no_more_layers, empty_is}
 use Rattle.tn_explore.proofs.search.explore.Goals as goal
 
@@ -62,8 +62,8 @@ loop-preserved g c = λ a is_of filters whole is.
     let tried = tried_layer J I g.R.Reduction.leaves_out a c.loop.counter layer c.into_states.result.items new old es c.loop.states room done b (ap (λ v. v.items) c.into_states.ensures) (λ depth tried at have. c.in_ok-is_complete.ensures a depth tried filters whole c.new-next.ensures at have) in
     let sum : c.saturating_add-met.result ≡ min (c.loop.states + length new) 18446744073709551615 = omega (arith, c.saturating_add-met.ensures, c.len.ensures, c.try_layer.new.next.states.ok.0) in
     let counted : length layer ≡ vec_len c.loop.layer.states = omega (arith, c.loop.layer.states.ok.0) in
-    let room_left = subst (LayerHasRoom J I g.R.Reduction.leaves_out layer) c.if-not-has_room.false (c.has_room.ensures c.args.context.now) in
-    before_next J I g.R.Reduction.leaves_out a c.loop.counter layer new old es c.loop.states room c.saturating_add-met.result (vec_len c.loop.layer.states) done b c.if-not-is_complete.false counted (sym c.is_empty.ensures ∙ c.if-is_empty.false) (λ out. room_left out a b.depth b.at) tried sum
+    let room_left = λ (out : g.R.Reduction.leaves_out ≡ true). c.has_room.ensures.fits c.args.context.now a whole c.if-not-has_room.false out b.depth b.at in
+    before_next J I g.R.Reduction.leaves_out a c.loop.counter layer new old es c.loop.states room c.saturating_add-met.result (vec_len c.loop.layer.states) done b c.if-not-is_complete.false counted (sym c.is_empty.ensures ∙ c.if-is_empty.false) room_left tried sum
 
 pub returns-then-not-has_room : goal.returns-then-not-has_room
-returns-then-not-has_room g c = record { some = tt; none = subst (LayerHasRoom g.S.SearchState.journal (g.S.SearchState.is_of c.args.context.now) g.R.Reduction.leaves_out c.loop.layer.states.items) c.if-not-has_room.true (c.has_room.ensures c.args.context.now) }
+returns-then-not-has_room g c = record { some = tt; none = c.has_room.ensures.full c.if-not-has_room.true }
