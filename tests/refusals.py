@@ -250,7 +250,7 @@ REFUSALS = [
     ),
     (
         "{function,m,f,exported,[],[{return,1},{call,'_',{m,g},[1,2]}]}.",
-        "script.term:1:39: form 1: not declared: function m:g/2, in step 2",
+        "script.term:1:39: form 1: not declared: function m:g/2, in step 2; is m:f/0 meant?",
     ),
     (
         "\n{process,m,go,[]}.",
@@ -270,7 +270,33 @@ REFUSALS = [
     ),
     (
         "{function,m,f,exported,[],[{'catch','X',{m,g},[1,2]}]}.",
-        "script.term:1:28: form 1: not declared: function m:g/2, in step 1",
+        "script.term:1:28: form 1: not declared: function m:g/2, in step 1; is m:f/0 meant?",
+    ),
+    (
+        "{function,m,go,exported,[],[]}.\n{function,m,rest,exported,['X'],[]}.\n{process,m,resst,[]}.",
+        "script.term:3: form 3: not declared: function m:resst/0; is m:rest/1 meant?",
+    ),
+    (
+        "{function,m,go,exported,[],[]}.\n{function,n,rest,exported,[],[]}.\n{process,m,rest,[]}.",
+        "script.term:3: form 3: not declared: function m:rest/0; is n:rest/0 meant?",
+    ),
+    (
+        "{function,m,go,exported,[],[{call,'_',{m,ff},[1]}]}.\n{function,m,f,exported,['X'],[]}.",
+        "script.term:1:29: form 1: not declared: function m:ff/1, in step 1; is m:f/1 meant?",
+    ),
+    (
+        "{function,m,go,exported,[],[{call,'_',{k,far},[1]}]}.\n{function,m,f,exported,['X'],[]}.",
+        "script.term:1:29: form 1: not declared: function k:far/1, in step 1",
+    ),
+    (
+        "{function,m,f,exported,[],[{return,'\u00fc'}]}.",
+        "script.term:1:36: syntax error: a term expected, found a quoted atom with the byte 195: "
+        "it has characters 32 to 126, and \\' and \\\\ for ' and \\",
+    ),
+    (
+        "{function,m,f,exported,[],[{return,\"a\u00fc\"}]}.",
+        "script.term:1:36: syntax error: a term expected, found a string with the byte 195: "
+        "it has characters 32 to 126, and \\\" and \\\\ for \" and \\",
     ),
     (
         "{function,m,f,internal,[],[]}.\n{function,m,g,exported,[],[{return,1},{'catch','_',{m,f},[]}]}.",

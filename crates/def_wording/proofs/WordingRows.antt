@@ -299,13 +299,21 @@ created_again : Breaks (controls (create (codes "a") (codes "t") ∷ []) ∷ con
 unfolding is_written_bare digits
 created_again = refl
 
-undeclared_in_step : Breaks (function_of "f" (one_step ∷ call_remote None (codes "m") (codes "g") (number 1 ∷ number 2 ∷ []) ∷ []) ∷ []) 1 undeclared ": function m:g/2, in step 2"
+undeclared_in_step : Breaks (function_of "f" (one_step ∷ call_remote None (codes "m") (codes "g") (number 1 ∷ number 2 ∷ []) ∷ []) ∷ []) 1 undeclared ": function m:g/2, in step 2; is m:f/0 meant?"
 unfolding is_written_bare digits
 undeclared_in_step = refl
 
 undeclared_start : Breaks (process_of [] ∷ []) 1 undeclared ": function m:f/0"
 unfolding is_written_bare digits
 undeclared_start = refl
+
+near_start : Breaks (process_of [] ∷ function_of "go" [] ∷ function_of "fo" [] ∷ []) 1 undeclared ": function m:f/0; is m:fo/0 meant?"
+unfolding is_written_bare digits
+near_start = refl
+
+start_in_another_module : Breaks (process_of [] ∷ function_of "fo" [] ∷ declares (function_from (codes "n") (codes "f") true (codes "X" ∷ []) []) ∷ []) 1 undeclared ": function m:f/0; is n:f/1 meant?"
+unfolding is_written_bare digits
+start_in_another_module = refl
 
 uncreated_session : Breaks (controls (create (codes "a") (codes "t") ∷ destroy (codes "b") ∷ []) ∷ []) 1 undeclared ": session b, which no earlier command creates"
 unfolding is_written_bare digits
@@ -442,9 +450,17 @@ quote_left_open : Misplaced (reads a_first open_tuple) an_open_quote "" of_scrip
 unfolding is_written_bare digits
 quote_left_open = refl
 
+byte_in_quotes : misplaced_text [] (reads a_first open_tuple) (record { thing = an_open_quote; bytes = 195 ∷ [] }) of_script ≡ codes ": a term or '}' expected, found a quoted atom with the byte 195: it has characters 32 to 126, and \\' and \\\\ for ' and \\"
+unfolding is_written_bare digits
+byte_in_quotes = refl
+
 string_left_open : Misplaced (reads a_first open_list) an_open_string "" of_script ": a term or ']' expected, found a string that is not closed: it has characters 32 to 126, and \\\" and \\\\ for \" and \\"
 unfolding is_written_bare digits
 string_left_open = refl
+
+byte_in_string : misplaced_text [] (reads a_first open_list) (record { thing = an_open_string; bytes = 195 ∷ [] }) of_script ≡ codes ": a term or ']' expected, found a string with the byte 195: it has characters 32 to 126, and \\\" and \\\\ for \" and \\"
+unfolding is_written_bare digits
+byte_in_string = refl
 
 stop_in_tuple : Misplaced (reads an_after open_tuple) a_stop "" of_script ": ',' or '}' expected, found the full stop: '{' at 1:1 is not closed"
 unfolding is_written_bare digits
@@ -465,6 +481,14 @@ end_without_stop = refl
 stop_after_term : Misplaced (reads an_ending None) a_stop "" of_term ": the end of the text expected, found the full stop: the term has no full stop after it here"
 unfolding is_written_bare digits
 stop_after_term = refl
+
+name_of_file : Misplaced (reads an_ending None) a_dot "" of_term ": the end of the text expected, found a dot: a specification in a file is given by --file"
+unfolding is_written_bare digits
+name_of_file = refl
+
+dot_in_term : Misplaced (reads an_after open_list) a_dot "" of_term ": ',' or ']' expected, found a dot: a full stop has a blank, a comment or the end of the text after it"
+unfolding is_written_bare digits
+dot_in_term = refl
 
 dot_in_word : Misplaced (reads an_after open_tuple) a_dot "" of_script ": ',' or '}' expected, found a dot: a full stop has a blank, a comment or the end of the text after it"
 unfolding is_written_bare digits

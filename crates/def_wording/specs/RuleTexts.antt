@@ -1,5 +1,5 @@
 -- What of a form breaks a static rule, and the text that says it (own): refusals 7 to 13.
--- Depends on the rules. That something of a form breaks a rule is said there; here it is which function, variable, session or number does.
+-- Depends on the rules, and on which function is probably meant by one that isn't there. That something of a form breaks a rule is said there; here it is which function, variable, session or number does.
 use Rattle.std.specs.Prelude.{ℕ, ◌+◌, ◌-◌, ◌^◌, min, nat_lt, Bool, false, ◌&&◌, not, List, [], ◌∷◌, ◌++◌, length, take, drop, flat_map, Option, Some, None, codes, decimal, if◌then◌else◌}
 use Rattle.std.specs.List.{count_by}
 use Rattle.std.specs.Option.{option_map, option_or}
@@ -8,16 +8,19 @@ use Rattle.def_term.specs.Tree.{Tree, int, atom, pid, tuple, list, Trees, none, 
 use Rattle.def_term.specs.Names.{Name, Mfa, same_mfa}
 use Rattle.def_term.specs.Text.{atom_text, is_among}
 use Rattle.def_script.specs.Limits.{STEPS, COMMANDS}
+use Rattle.def_script.specs.Exports.{visible}
 use Rattle.def_script.specs.Program.{is_variable, Step, Function, mfa_of, Entry, entry_mfa, Command, create, session_of, Form, declares, starts, controls}
-use Rattle.def_script.specs.Rules.{Rule, duplicate, undeclared, not_exported, unbound, tracer_taken, wrong_arity, past_limit, declares_one, is_declared_at_all, is_internal, is_misnamed, named_by, named_with_module, bound_before, terms_of, commands_of, creates_session, gives_tracer, first_passing, is_function, is_process, is_creation}
+use Rattle.def_script.specs.Rules.{Rule, duplicate, undeclared, not_exported, unbound, tracer_taken, wrong_arity, past_limit, declares_one, is_declared_at_all, is_internal, is_misnamed, form_functions, named_by, named_with_module, bound_before, terms_of, commands_of, creates_session, gives_tracer, first_passing, is_function, is_process, is_creation}
+use Rattle.def_explain.specs.NearestFunctions.{nearest_to}
+use Rattle.def_explain.specs.ReasonTexts.{meant_text}
 use Rattle.def_wording.specs.Firsts.{first_with_earlier}
 
 -- ---- reasons
 
 -- why naming a function breaks the rule
 pub data NameReason : Type 0 where
-  -- 8: no form declares it
-  without_declaration : Mfa → NameReason
+  -- 8: no form declares it; the declared one that is probably meant
+  without_declaration : Mfa → (meant : Option Mfa) → NameReason
   -- 9: it is internal
   of_internal : Mfa → NameReason
   -- 12: it is declared with these numbers of parameters
@@ -66,14 +69,19 @@ total_text n what = codes ": " ++ decimal n ++ what ++ codes " up to here"
 
 -- a function that is named, and why that breaks the rule
 abbrev pub name_reason_text : NameReason → List ℕ
-name_reason_text (without_declaration f) = codes ": function " ++ function_text f
+name_reason_text (without_declaration f meant) = codes ": function " ++ function_text f
 name_reason_text (of_internal f) = codes ": function " ++ function_text f ++ codes " is internal"
 name_reason_text (of_other_arity f ns) = codes ": function " ++ function_text f ++ arities_text ns
 
+-- which is probably meant by one that no form declares
+abbrev pub name_hint_text : NameReason → List ℕ
+name_hint_text (without_declaration f meant) = meant_text meant
+name_hint_text r = []
+
 -- the text, after the words of the rule
 abbrev pub rule_reason_text : RuleReason → List ℕ
-rule_reason_text (of_name r) = name_reason_text r
-rule_reason_text (of_name_in_step r n) = name_reason_text r ++ codes ", in step " ++ decimal n
+rule_reason_text (of_name r) = name_reason_text r ++ name_hint_text r
+rule_reason_text (of_name_in_step r n) = name_reason_text r ++ codes ", in step " ++ decimal n ++ name_hint_text r
 rule_reason_text (declared_too f n) = codes ": function " ++ function_text f ++ codes ", in form " ++ decimal n ++ codes " too"
 rule_reason_text (created_twice s) = codes ": session " ++ atom_text s
 rule_reason_text (without_creation s) = codes ": session " ++ atom_text s ++ codes ", which no earlier command creates"
@@ -102,6 +110,10 @@ arities_in g f = []
 abbrev pub declared_arities : List Form → Mfa → List ℕ
 declared_arities fs f = flat_map (λ g. arities_in g f) fs
 
+-- of all functions that these forms declare, the one that is probably meant
+abbrev pub nearest_declared : List Form → Mfa → Option Mfa
+nearest_declared fs f = nearest_to f.module_name f.function_name (visible (form_functions fs))
+
 -- naming the function breaks the rule
 abbrev pub breaks_by_name : Rule → List Form → Mfa → Bool
 breaks_by_name undeclared fs f = not (is_declared_at_all fs f)
@@ -113,7 +125,7 @@ breaks_by_name r fs f = false
 abbrev pub name_reason_of : Rule → List Form → Mfa → NameReason
 name_reason_of not_exported fs f = of_internal f
 name_reason_of wrong_arity fs f = of_other_arity f (declared_arities fs f)
-name_reason_of r fs f = without_declaration f
+name_reason_of r fs f = without_declaration f (nearest_declared fs f)
 
 -- where it does
 abbrev pub named_reason : Rule → List Form → Mfa → Option RuleReason

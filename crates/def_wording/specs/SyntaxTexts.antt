@@ -14,10 +14,10 @@ pub data TextThing : Type 0 where
   an_end : TextThing
   -- a word that begins with a capital letter or `_`, a reserved word, and another word or what is in quotes
   a_variable_word a_reserved_word a_bare_atom a_quoted_atom : TextThing
-  -- a quote that isn't closed
+  -- a quote that isn't closed, or after which a byte stands that is no character: that byte
   an_open_quote : TextThing
   a_number : TextThing
-  -- what is in double quotes, and a double quote that isn't closed
+  -- what is in double quotes, and the same of a double quote
   a_string an_open_string : TextThing
   a_float : TextThing
   -- a full stop, and a dot that is none
@@ -67,10 +67,8 @@ thing_words a_variable_word = codes "the variable "
 thing_words a_reserved_word = codes "the reserved word "
 thing_words a_bare_atom = codes "the atom "
 thing_words a_quoted_atom = codes "the atom "
-thing_words an_open_quote = codes "a quoted atom that is not closed"
 thing_words a_number = codes "the number "
 thing_words a_string = codes "the string "
-thing_words an_open_string = codes "a string that is not closed"
 thing_words a_float = codes "the float "
 thing_words a_stop = codes "the full stop"
 thing_words a_dot = codes "a dot"
@@ -85,6 +83,11 @@ abbrev pub byte_text : List ℕ → List ℕ
 byte_text [] = []
 byte_text (b ∷ bs) = codes "the byte " ++ decimal b
 
+-- why there is no end of what is in quotes: a byte in it that is no character, or nothing closes it
+abbrev pub no_end_text : List ℕ → List ℕ
+no_end_text [] = codes "that is not closed"
+no_end_text (b ∷ bs) = codes "with the byte " ++ decimal b
+
 -- marks stand in quotes
 abbrev pub quoted_text : List ℕ → List ℕ
 quoted_text bytes = codes "'" ++ shown_text bytes ++ codes "'"
@@ -92,6 +95,8 @@ quoted_text bytes = codes "'" ++ shown_text bytes ++ codes "'"
 -- what it is, and its bytes
 abbrev pub thing_text : TextThing → List ℕ → List ℕ
 thing_text a_byte bytes = byte_text bytes
+thing_text an_open_quote bytes = codes "a quoted atom " ++ no_end_text bytes
+thing_text an_open_string bytes = codes "a string " ++ no_end_text bytes
 thing_text an_opener bytes = quoted_text bytes
 thing_text a_closer bytes = quoted_text bytes
 thing_text a_comma bytes = quoted_text bytes
@@ -136,7 +141,6 @@ thing_hint a_literal = codes ": a character is written as its number"
 thing_hint a_bar = codes ": a list has no tail, though one of a node may have"
 thing_hint a_pid = codes ": a pid is <0.N.0>, N without leading zeros"
 thing_hint an_angle = codes ": a pid is <0.N.0>, N without leading zeros"
-thing_hint a_dot = codes ": a full stop has a blank, a comment or the end of the text after it"
 thing_hint an_open_quote = codes ": it has characters 32 to 126, and \\' and \\\\ for ' and \\"
 thing_hint an_open_string = codes ": it has characters 32 to 126, and \\\" and \\\\ for \" and \\"
 thing_hint t = []
@@ -206,6 +210,11 @@ is_element n = false
 abbrev pub closer_text : List ℕ → ReadSoFar → TextKind → List ℕ
 closer_text bytes s k = if is_element s.next then codes ": no comma stands before a closing bracket" else closing_text bytes s.innermost a_closer k
 
+-- of a dot that is no full stop; after a whole term it may be meant as the name of a file
+abbrev pub dot_hint : NextPart → TextKind → List ℕ
+dot_hint an_ending of_term = codes ": a specification in a file is given by --file"
+dot_hint n k = codes ": a full stop has a blank, a comment or the end of the text after it"
+
 -- of a string; it may stand after another
 abbrev pub string_hint : NextPart → List ℕ
 string_hint an_after = codes ": strings are not joined"
@@ -218,6 +227,7 @@ hint_text bytes s a_reserved_word word k = word_in_quotes (reserved_words_text w
 hint_text bytes s a_closer word k = closer_text bytes s k
 hint_text bytes s an_end word k = closing_text bytes s.innermost an_end k
 hint_text bytes s a_stop word k = closing_text bytes s.innermost a_stop k
+hint_text bytes s a_dot word k = dot_hint s.next k
 hint_text bytes s a_string word k = string_hint s.next
 hint_text bytes s a_mark word k = mark_hint s.next word
 hint_text bytes s a_byte word k = byte_hint word

@@ -4,6 +4,7 @@ use Rattle.std.specs.Option.{option_map}
 use Rattle.def_term.specs.Names.{Name, Mfa}
 use Rattle.def_script.specs.Program.{Step, Function, Command}
 use Rattle.def_script.specs.Rules.{bound_before, creates_session, gives_tracer, terms_of}
+use Rattle.def_explain.specs.NearestFunctions.{has_module, has_name, has_both, has_near_name}
 use Rattle.def_wording.specs.RuleTexts.{first_free_in, session_holder, tracer_holder}
 use Rattle.tn_script.specs.Views.{step_of}
 use Rattle.tn_program.specs.Variables.{target_names}
@@ -12,6 +13,8 @@ use Rattle.tn_refusal.specs.declared.callee.Callee.{Callee}
 use Rattle.tn_refusal.specs.declared.callee.CalleeInStep.{CalleeInStep}
 use Rattle.tn_refusal.specs.declared.callee.DeclarationMatch.{DeclarationMatch}
 use Rattle.tn_refusal.specs.declared.callee.DeclarationMatch.TheVariants.{Named, Exact, Internal}
+use Rattle.tn_refusal.specs.declared.nearest.Likeness.{Likeness}
+use Rattle.tn_refusal.specs.declared.nearest.Likeness.TheVariants as likeness
 use Rattle.tn_refusal.specs.declared.variables.TermSite.{TermSite}
 use Rattle.tn_refusal.specs.declared.variables.TermSite.TheVariants.{InStep, InArguments}
 use Rattle.tn_refusal.specs.declared.variables.VariableInStep.{VariableInStep}
@@ -27,6 +30,13 @@ abbrev pub declares_so : DeclarationMatch → Mfa → Function → Bool
 declares_so Named f k = is_named_so f.module_name f.function_name k
 declares_so Exact f k = is_it f k
 declares_so Internal f k = is_it_internal f k
+
+-- the function is so like the one that is named
+abbrev pub is_alike : Likeness → Mfa → Mfa → Bool
+is_alike likeness.Both f = has_both f.module_name f.function_name
+is_alike likeness.Name f = has_name f.function_name
+is_alike likeness.NearName f = has_near_name f.module_name f.function_name
+is_alike likeness.Module f = has_module f.module_name
 
 -- a function that a step names, with the step's number
 abbrev pub callee_in_step_seen : {A : Type 0} → CalleeInStep A → Mfa × ℕ

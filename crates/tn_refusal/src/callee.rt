@@ -2,7 +2,9 @@
 ghost use Rattle.std.specs.Prelude.{◌≡◌, [], ◌++◌, map, OnOk, option_to_list};
 ghost use Rattle.std.specs.List.{list_any};
 ghost use Rattle.std.specs.Option.{option_map};
-ghost use Rattle.def_wording.specs.RuleTexts.{function_text, declared_too, rule_reason_text, name_reason_text};
+ghost use Rattle.def_wording.specs.RuleTexts.{function_text, declared_too, of_name, rule_reason_text};
+ghost use Rattle.def_wording.specs.RuleTexts.{name_reason_text, name_hint_text, nearest_declared};
+ghost use Rattle.def_explain.specs.ReasonTexts.{meant_text};
 ghost use Rattle.def_wording.specs.RuleTexts.{again_at, again_reason, rule_reasons_text, arities_in, arities_text};
 ghost use Rattle.def_wording.specs.RuleTexts.{declared_arities, breaks_by_name, name_reason_of, named_reason};
 ghost use Rattle.def_wording.specs.RuleTexts.{names_of_step, wrong_name, step_name, step_reason_of, steps_name_reason};
@@ -15,6 +17,7 @@ ghost use Rattle.def_wording.specs.Firsts.{first_with_earlier};
 ghost use Rattle.tn_script.specs.Views.{args_of, entry_of, function_of, form_of, step_of};
 ghost use Rattle.tn_refusal.specs.RuleViews.{callee_seen, callee_in_step_seen, declares_so};
 
+use crate::nearest::nearest_declared;
 use crate::put::{put_atom, put_number};
 use std::alloc::{AllocError, Allocator};
 use tn_program::Rule;
@@ -24,9 +27,9 @@ use tn_term::Atom;
 /// A function: its module, its name and the number of arguments.
 #[derive(Drop)]
 pub struct Callee<'a, A: Allocator> {
-    home: &'a Atom<A>,
-    name: &'a Atom<A>,
-    arity: usize,
+    pub home: &'a Atom<A>,
+    pub name: &'a Atom<A>,
+    pub arity: usize,
 }
 
 /// How a form may declare a function that is named.
@@ -348,6 +351,55 @@ fn put_wrong<A: Allocator>(
     }
 }
 
+/// Appends that this function is probably meant, where there is one; after an `Err` a part of it may be there.
+fn put_meant<A: Allocator>(
+    meant: &Option<Callee<'_, A>>,
+    out: &mut Vec<u8, A>,
+) -> Result<(), AllocError>
+    ensures { OnOk result (out.new.items ≡ out.old.items ++ meant_text (option_map callee_seen meant.now)) }
+{
+    match meant {
+        Some(callee) => {
+            put_callee(b"; is ", callee, out)?;
+            out.extend_from_slice(b" meant?")
+        }
+        None => Ok(()),
+    }
+}
+
+/// Appends which of the declared functions is probably meant; after an `Err` a part of it may be there.
+fn put_nearest<A: Allocator>(
+    forms: &[Form<A>],
+    callee: &Callee<'_, A>,
+    out: &mut Vec<u8, A>,
+) -> Result<(), AllocError>
+    ensures { OnOk result (out.new.items ≡ out.old.items
+        ++ meant_text (nearest_declared (map form_of forms.now) (callee_seen callee.now))) }
+{
+    put_meant(&nearest_declared(forms, callee), out)
+}
+
+/// Appends which function is probably meant by one that no form declares; after an `Err` a part of it may be there.
+fn put_hint<A: Allocator>(
+    rule: Rule,
+    forms: &[Form<A>],
+    callee: &Callee<'_, A>,
+    out: &mut Vec<u8, A>,
+) -> Result<(), AllocError>
+    ensures { OnOk result (out.new.items ≡ out.old.items ++ name_hint_text
+        (name_reason_of (rule_of rule) (map form_of forms.now) (callee_seen callee.now))) }
+{
+    match rule {
+        Rule::NotExported => Ok(()),
+        Rule::Arity => Ok(()),
+        Rule::Duplicate => put_nearest(forms, callee, out),
+        Rule::Undeclared => put_nearest(forms, callee, out),
+        Rule::Unbound => put_nearest(forms, callee, out),
+        Rule::TracerTaken => put_nearest(forms, callee, out),
+        Rule::Limit => put_nearest(forms, callee, out),
+    }
+}
+
 /// Appends a function that a step names, and why that breaks the rule; after an `Err` a part of it may be there.
 fn put_wrong_in_step<A: Allocator>(
     rule: Rule,
@@ -359,7 +411,8 @@ fn put_wrong_in_step<A: Allocator>(
         (step_reason_of (rule_of rule) (map form_of forms.now) (callee_in_step_seen wrong.now))) }
 {
     put_wrong(rule, forms, &wrong.callee, out)?;
-    put_number(b", in step ", wrong.step, out)
+    put_number(b", in step ", wrong.step, out)?;
+    put_hint(rule, forms, &wrong.callee, out)
 }
 
 /// Appends the first function that a step names and that breaks the rule, and in which step; after an `Err` a part of
@@ -379,6 +432,20 @@ pub fn put_named<A: Allocator>(
     }
 }
 
+/// The same of a function that a process starts with.
+fn put_wrong_start<A: Allocator>(
+    rule: Rule,
+    forms: &[Form<A>],
+    callee: &Callee<'_, A>,
+    out: &mut Vec<u8, A>,
+) -> Result<(), AllocError>
+    ensures { OnOk result (out.new.items ≡ out.old.items ++ rule_reason_text
+        (of_name (name_reason_of (rule_of rule) (map form_of forms.now) (callee_seen callee.now)))) }
+{
+    put_wrong(rule, forms, callee, out)?;
+    put_hint(rule, forms, callee, out)
+}
+
 /// Appends the function that a process starts with, and why that breaks the rule; after an `Err` a part of it may be
 /// there.
 pub fn put_started<A: Allocator>(
@@ -392,7 +459,7 @@ pub fn put_started<A: Allocator>(
 {
     let callee = callee_named(&entry.module, &entry.name, &entry.args);
     if breaks(rule, forms, &callee) {
-        put_wrong(rule, forms, &callee, out)
+        put_wrong_start(rule, forms, &callee, out)
     } else {
         Ok(())
     }

@@ -1,7 +1,8 @@
 // What stands at a place of a text.
 ghost use Rattle.std.specs.Prelude.{◌≡◌, ◌++◌, OnOk};
 ghost use Rattle.def_wording.specs.ShownTexts.{shown_text};
-ghost use Rattle.def_wording.specs.SyntaxTexts.{thing_words, byte_text, quoted_text, thing_text};
+ghost use Rattle.def_wording.specs.SyntaxTexts.{thing_words, byte_text, no_end_text, quoted_text};
+ghost use Rattle.def_wording.specs.SyntaxTexts.{thing_text};
 ghost use Rattle.tn_refusal.specs.TextViews.{thing_seen};
 
 use crate::bytes::{begins_with_digit, byte_at, first_bytes, last_digits_len, rest_at};
@@ -69,11 +70,35 @@ fn dot_at(text: &[u8], at: usize) -> TextItem<'_> {
     }
 }
 
+/// Whether the byte is no character of a text.
+fn is_strange(b: u8) -> bool {
+    b > 126 || (b < 32 && b != b'\n' && b != b'\r')
+}
+
+/// The first byte of what begins with a quote that is no character; nothing where its line ends before, or the quote is
+/// closed.
+fn strange_byte(rest: &[u8], quote: u8) -> &[u8] {
+    let mut escaped = true;
+    for (i, b) in rest.iter().enumerate() {
+        if is_strange(*b) {
+            return first_bytes(rest_at(rest, i), 1);
+        }
+        if *b == b'\n' || (*b == quote && !escaped) {
+            return b"";
+        }
+        escaped = *b == b'\\' && !escaped;
+    }
+    b""
+}
+
 /// What begins with a quote: closed, or not.
 fn quoted_at(rest: &[u8], quote: u8, closed: Thing, open: Thing) -> TextItem<'_> {
     match quoted_len(rest_at(rest, 1), quote) {
         Some(len) => of_len(closed, rest, len.saturating_add(1)),
-        None => of_len(open, rest, 0),
+        None => TextItem {
+            thing: open,
+            bytes: strange_byte(rest, quote),
+        },
     }
 }
 
@@ -181,10 +206,8 @@ fn words_for(thing: Thing) -> &'static [u8]
         Thing::Reserved => b"the reserved word ",
         Thing::Atom => b"the atom ",
         Thing::Quoted => b"the atom ",
-        Thing::Unquoted => b"a quoted atom that is not closed",
         Thing::Number => b"the number ",
         Thing::Characters => b"the string ",
-        Thing::Unclosed => b"a string that is not closed",
         Thing::Float => b"the float ",
         Thing::Stop => b"the full stop",
         Thing::Dot => b"a dot",
@@ -204,6 +227,28 @@ fn put_byte<A: Allocator>(bytes: &[u8], out: &mut Vec<u8, A>) -> Result<(), Allo
         Some(b) => put_number(b"the byte ", *b as usize, out),
         None => Ok(()),
     }
+}
+
+/// Appends why there is no end of what is in quotes; after an `Err` a part of the text may be there.
+fn put_no_end<A: Allocator>(bytes: &[u8], out: &mut Vec<u8, A>) -> Result<(), AllocError>
+    ensures { OnOk result (out.new.items ≡ out.old.items ++ no_end_text bytes.now) }
+{
+    match bytes.first() {
+        Some(b) => put_number(b"with the byte ", *b as usize, out),
+        None => out.extend_from_slice(b"that is not closed"),
+    }
+}
+
+/// Appends words, and why there is no end of what is in quotes; after an `Err` a part of the text may be there.
+fn put_unclosed<A: Allocator>(
+    words: &[u8],
+    bytes: &[u8],
+    out: &mut Vec<u8, A>,
+) -> Result<(), AllocError>
+    ensures { OnOk result (out.new.items ≡ out.old.items ++ words.now ++ no_end_text bytes.now) }
+{
+    out.extend_from_slice(words)?;
+    put_no_end(bytes, out)
 }
 
 /// Appends a mark in quotes; after an `Err` a part of the text may be there.
@@ -237,6 +282,8 @@ pub fn put_thing<A: Allocator>(
 {
     match thing {
         Thing::Byte => put_byte(bytes, out),
+        Thing::Unquoted => put_unclosed(b"a quoted atom ", bytes, out),
+        Thing::Unclosed => put_unclosed(b"a string ", bytes, out),
         Thing::Open => put_quoted(bytes, out),
         Thing::Close => put_quoted(bytes, out),
         Thing::Comma => put_quoted(bytes, out),

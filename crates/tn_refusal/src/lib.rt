@@ -17,6 +17,7 @@ mod limits;
 mod line;
 mod line_column;
 mod location;
+mod nearest;
 mod part_reasons;
 mod picks;
 mod position;

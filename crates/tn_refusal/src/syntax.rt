@@ -6,7 +6,7 @@ ghost use Rattle.def_wording.specs.SyntaxTexts.{in_tuple, next_text, thing_hint,
 ghost use Rattle.def_wording.specs.SyntaxTexts.{word_in_quotes, unopened_text, unclosed_text, closing_text};
 ghost use Rattle.def_wording.specs.SyntaxTexts.{closer_text, string_hint, hint_text, misplaced_text, string_note};
 ghost use Rattle.def_wording.specs.SyntaxTexts.{thing_at_text, is_part_of_number, variable_words_text};
-ghost use Rattle.def_wording.specs.SyntaxTexts.{sign_hint, mark_hint, byte_hint};
+ghost use Rattle.def_wording.specs.SyntaxTexts.{sign_hint, mark_hint, byte_hint, dot_hint};
 ghost use Rattle.def_wording.specs.SyntaxTexts.{deep_text, characters_text, wide_text, open_text, large_text};
 ghost use Rattle.tn_refusal.specs.TextViews.{thing_seen, text_item_seen, next_seen, bracket_seen, innermost_seen};
 ghost use Rattle.tn_refusal.specs.TextViews.{read_state_seen, read_states_seen, kind_seen, TellsToken};
@@ -82,7 +82,6 @@ fn hint_of(thing: Thing) -> &'static [u8]
         Thing::Bar => b": a list has no tail, though one of a node may have",
         Thing::Pid => b": a pid is <0.N.0>, N without leading zeros",
         Thing::Angle => b": a pid is <0.N.0>, N without leading zeros",
-        Thing::Dot => b": a full stop has a blank, a comment or the end of the text after it",
         Thing::Unquoted => b": it has characters 32 to 126, and \\' and \\\\ for ' and \\",
         Thing::Unclosed => b": it has characters 32 to 126, and \\\" and \\\\ for \" and \\",
         _ => b"",
@@ -218,6 +217,16 @@ fn reserved_hint(word: &[u8]) -> &'static [u8]
     }
 }
 
+/// What is said of a dot that is no full stop.
+fn dot_words(position: Position, kind: TextKind) -> &'static [u8]
+    ensures { result.now ≡ dot_hint (next_seen position) (kind_seen kind) }
+{
+    match (position, kind) {
+        (Position::Done, TextKind::Term) => b": a specification in a file is given by --file",
+        _ => b": a full stop has a blank, a comment or the end of the text after it",
+    }
+}
+
 /// What is said of a string.
 fn string_words(position: Position) -> &'static [u8]
     ensures { result.now ≡ string_hint (next_seen position) }
@@ -260,6 +269,7 @@ fn put_hint<A: Allocator>(
         Thing::Close => put_closer(text, standing, kind, out),
         Thing::End => put_closing(text, standing.innermost, Thing::End, kind, out),
         Thing::Stop => put_closing(text, standing.innermost, Thing::Stop, kind, out),
+        Thing::Dot => out.extend_from_slice(dot_words(standing.position, kind)),
         Thing::Characters => out.extend_from_slice(string_words(standing.position)),
         Thing::Location => out.extend_from_slice(mark_words(standing.position, bytes)),
         Thing::Byte => out.extend_from_slice(byte_words(bytes)),
