@@ -1,11 +1,10 @@
 -- A state that is the same as one of a layer, and states that are added.
-use Rattle.std.proofs.Common.{◌≡◌, ◌<◌, length, get_or, inl, inr, ℕ, List, [], ◌∷◌, ◌++◌, map, Bool, true, false, refl, ap, arith, sym, subst, append-nil}
+use Rattle.std.proofs.Common.{◌≡◌, ◌<◌, length, get_or, inl, inr, ℕ, List, [], ◌∷◌, ◌++◌, map, Bool, true, refl, ap, arith, sym, subst, append-nil}
 use Rattle.std.specs.Prelude.{IsTrue, Some, slice_get}
 use Rattle.std.specs.Option.{unwrap_or}
 use Rattle.def_explore.proofs.Lists.{one_after, each_both}
 use Rattle.def_explore.proofs.Alike.{alike_same}
-use Rattle.def_run.specs.Run.{moves}
-use Rattle.tn_explore.specs.Query.{Query, AlikeFor, HasStateFor, HasJournalRoom}
+use Rattle.tn_explore.specs.Query.{Query, AlikeFor, HasStateFor}
 use Rattle.tn_explore.specs.SearchStates.{AreSame}
 use Rattle.tn_explore.specs.Searches.{IsAt, AreAt, HasSame, AddsState, LayerHasRoom}
 use Rattle.tn_explore.proofs.Lists.{one_at, each_at, one_mapped}
@@ -30,15 +29,10 @@ module _ {S : Type 0} (Journal : S → List ℕ) (IsOf : S → Query → Type 0)
         (one_mapped (AlikeFor a (Journal s)) Journal (ss ++ s ∷ []) (one_after (λ u. AlikeFor a (Journal s) (Journal u)) ss (s ∷ []) (inl (alike_same a.question a.sessions a.program (Journal s) (Journal s) refl))));
   }
 
-  -- a layer has room where its first state has
-  pub room_at : (a : Query) (ss : List S) (s : S) → Some s ≡ slice_get ss 0 → (IsOf s a → HasJournalRoom a (Journal s)) → LayerHasRoom Journal IsOf a ss
+  -- a layer has room where the journal of its first state has
+  pub room_at : (a : Query) (ss : List S) (s : S) → Some s ≡ slice_get ss 0 → length (Journal s) < 65536 → LayerHasRoom Journal IsOf a ss
   room_at a [] s is room = λ depth at. inl refl
   room_at a (x ∷ xs) s is room = λ depth at.
       let here : IsAt Journal IsOf a depth s = subst (IsAt Journal IsOf a depth) (sym (ap (λ o. unwrap_or o s) is)) at.0 in
-      let left : HasJournalRoom a (Journal s) = room here.is_of in
-      let moved : length (moves a.program (Journal s)) ≡ length (Journal s) = ap length here.from.from.moved in
       let long : length (Journal s) ≡ depth = here.long in
-      inr (omega arith)
-
-  pub no_states : (a : Query) (ss : List S) → ss ≡ [] → LayerHasRoom Journal IsOf a ss
-  no_states a ss none = λ depth at. inl none
+      inr (omega (arith, room, long))

@@ -18,10 +18,14 @@ use Rattle.def_explore.proofs.Alike.{moves_alike}
 use Rattle.def_explore.proofs.Closed.{state_by, closed_have_all, closed_are_complete, closed_are_shortest}
 use Rattle.def_explore.proofs.ReducedJournals.{reduced_ends_are_complete, reduced_ends_are_shortest}
 use Rattle.tn_explore.specs.Query.{Query, AdmitsFor, JournalFor, EndFor, AlikeFor, HasStateFor, HasNextFor, IsTriedFor, HasNextBy, AreFirstFor, HaveAllFor, EntryFor, NoLongerFor, kept_for, entry_for}
-use Rattle.tn_explore.specs.SearchStates.{HaveAllMoves, AreEnough, IsAdmitted}
+use Rattle.tn_explore.specs.SearchStates.{HaveAllMoves, HasAllMoves, AreEnough, HasEnoughPicks, IsAdmitted}
 use Rattle.tn_explore.specs.Searches.{IsAt, AreAt, Tries, KeepsEntries, GainsAnswer, Answers, AnswersEnd, TriesState, HaveTried, TriesLayer, Explores}
 use Rattle.tn_explore.proofs.Lists.{map_both, each_mapped, each_right, each_zip, none_is}
 use Rattle.tn_explore.proofs.Tries.{both_ways}
+
+-- where no picks are left out all that move are tried
+pub every_move : {S : Type 0} (Journal : S → List ℕ) (IsOf : S → Query → Type 0) (s : S) (picks : List ℕ) → HasEnoughPicks Journal IsOf false s picks → HasAllMoves Journal IsOf s picks
+every_move Journal IsOf s picks h a is_of = h a is_of (λ left. absurd (both_ways false left refl))
 
 -- what holds of each pick holds of one that is among them
 among : (P : ℕ → Type 0) (picks : List ℕ) (t : ℕ) → is_pick_among t picks ≡ true → All P picks → P t

@@ -4,7 +4,7 @@ use Rattle.std.specs.Prelude.{◌≡◌, ◌⊎◌, ℕ, Bool, true, false, List
 use Rattle.std.specs.List.{Contains}
 use Rattle.def_run.specs.Laws.{IsIdleAfter}
 use Rattle.def_explore.specs.Rests.{IsMovingAfter, KeptMessages}
-use Rattle.tn_explore.specs.Query.{Query, AlikeFor, AreFirstFor, HasJournalRoom, kept_for}
+use Rattle.tn_explore.specs.Query.{Query, AlikeFor, AreFirstFor, kept_for}
 
 -- the copy is the same state
 abbrev pub IsCopy : {S : Type 0} → (S → List ℕ) → (S → Query → Type 0) → S → S → Type 0
@@ -31,16 +31,13 @@ abbrev pub AreEnough : Bool → Query → (journal picks : List ℕ) → Type 0
 AreEnough false a journal picks = HaveAllMoves a journal picks
 AreEnough true a journal picks = HaveAllMoves a journal picks ⊎ AreFirstFor a journal picks
 
--- for what is asked: picks that are known to go first are independent of all others, and are left out alone; and journals that are known to have room have it
-pub record IsReductionFor {S : Type 0} (Journal : S → List ℕ) (IsOf : S → Query → Type 0) (leaves_out : Bool) (First : S → ℕ → Type 0) (Room : S → Type 0) (a : Query) : Type 0 where
-  pub left : (s : S) (pick : ℕ) → First s pick → leaves_out ≡ true
-  pub first : (s : S) (pick : ℕ) → First s pick → IsOf s a → AreFirstFor a (Journal s) (pick ∷ [])
-  pub room : (s : S) → Room s → IsOf s a → HasJournalRoom a (Journal s)
+-- where picks are left out every run is followed
+abbrev pub FollowsAllBy : Bool → Query → Type 0
+FollowsAllBy leaves_out a = leaves_out ≡ true → (kept : KeptMessages) → a.admits kept ≡ true
 
 -- the picks that are tried after the state
-abbrev pub HasEnoughPicks : {S : Type 0} → (S → List ℕ) → (S → Query → Type 0) → Bool → (S → ℕ → Type 0) → (S → Type 0) → S → List ℕ → Type 0
-HasEnoughPicks Journal IsOf leaves_out First Room s picks =
-    (a : Query) → IsOf s a → IsReductionFor Journal IsOf leaves_out First Room a → AreEnough leaves_out a (Journal s) picks
+abbrev pub HasEnoughPicks : {S : Type 0} → (S → List ℕ) → (S → Query → Type 0) → Bool → S → List ℕ → Type 0
+HasEnoughPicks Journal IsOf leaves_out s picks = (a : Query) → IsOf s a → FollowsAllBy leaves_out a → AreEnough leaves_out a (Journal s) picks
 
 -- both are the same state
 abbrev pub AreSame : {S : Type 0} → (S → List ℕ) → (S → Query → Type 0) → S → S → Bool → Type 0

@@ -1,6 +1,6 @@
 -- What a search has answered, and what it has tried.
 -- Depends on the states of a search.
-use Rattle.std.specs.Prelude.{◌≡◌, ◌<◌, ◌≤◌, ◌+◌, ◌⊎◌, ℕ, Bool, true, false, List, [], ◌∷◌, ◌++◌, length, min, IsTrue, map, All}
+use Rattle.std.specs.Prelude.{◌≡◌, ◌<◌, ◌≤◌, ◌+◌, ◌⊎◌, ℕ, Bool, false, List, [], ◌∷◌, ◌++◌, length, min, IsTrue, map, All}
 use Rattle.std.specs.declared.vec.Vec.{Vec}
 use Rattle.std.below.core.specs.declared.int.usize.TheConstants.{MAX}
 use Rattle.def_run.specs.Run.{JOURNAL}

@@ -1,12 +1,14 @@
 // The states after so many moves, each once.
 ghost use Rattle.std.specs.Prelude.{◌≡◌, ℕ, IfOk, List};
 
-use crate::reduction::Reduction;
 use crate::search_state::SearchState;
 use std::alloc::{AllocError, Allocator};
 
 /// How many lists the states are in, by their fingerprints.
 const HEADS: usize = 65536;
+
+/// How many picks a journal may have.
+const JOURNAL: usize = 65536;
 
 /// The states after so many moves. The lists by fingerprint only say where to look.
 #[derive(Drop)]
@@ -20,9 +22,8 @@ pub struct Layer<A: Allocator, S> {
 }
 
 impl<A: Allocator + Copy, S: SearchState<A>> Layer<A, S> {
-    ghost use Rattle.std.specs.Prelude.{[], ◌∷◌, ◌++◌, true, false, IsTrue};
+    ghost use Rattle.std.specs.Prelude.{[], ◌∷◌, ◌++◌, IsTrue};
     ghost use Rattle.tn_explore.specs.Query.{Query};
-    ghost use Rattle.tn_explore.specs.SearchStates.{IsReductionFor};
     ghost use Rattle.tn_explore.specs.Searches.{IsAt, AreAt, HasSame, AddsState, LayerHasRoom};
 
     /// No state.
@@ -63,17 +64,20 @@ impl<A: Allocator + Copy, S: SearchState<A>> Layer<A, S> {
         false
     }
 
-    /// Whether the journals of its states have room for a pick more. Where no pick is left out it is true.
-    pub fn has_room<R: Reduction<S, S::Context>>(&self) -> bool
-        ensures fits { (x : S.Context) (a : Query) →
-            IsReductionFor S.journal (S.is_of x) R.leaves_out (R.goes_first x) R.room a → IsTrue result →
-            R.leaves_out ≡ true → LayerHasRoom S.journal (S.is_of x) a self.now.states.items }
-        ensures full { result ≡ false → R.leaves_out ≡ true }
+    /// Whether the journals of its states have room for a pick more.
+    pub fn has_room(&self) -> Result<bool, AllocError>
+        ensures { IfOk result (λ b. (x : S.Context) (a : Query) →
+            IsTrue b → LayerHasRoom S.journal (S.is_of x) a self.now.states.items) }
     {
-        match self.states.first() {
-            Some(state) => R::has_room(state),
-            None => true,
+        let Some(state) = self.states.first() else {
+            return Ok(true);
+        };
+        let journal = state.copy_journal(self.alloc)?;
+        let made = journal.len();
+        if made >= JOURNAL {
+            return Ok(false);
         }
+        Ok(true)
     }
 
     /// The states.

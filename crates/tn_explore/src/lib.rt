@@ -6,10 +6,8 @@
 #![tactic(auto)]
 
 mod layer;
-mod reduction;
 mod search;
 mod search_state;
 
-pub use reduction::{AllPicks, Reduction};
-pub use search::{Answers, Exploration, explore};
+pub use search::{Answers, Choice, Exploration, explore};
 pub use search_state::SearchState;

@@ -1,14 +1,13 @@
 // The search through all states, a layer at a time.
-ghost use Rattle.std.specs.Prelude.{◌≡◌, ◌+◌, ℕ, List, [], ◌∷◌, ◌++◌, IfOk, IfSome, IfNone, IsTrue, map, true};
+ghost use Rattle.std.specs.Prelude.{◌≡◌, ◌+◌, ℕ, List, [], ◌∷◌, ◌++◌, IfOk, IfSome, IfNone, IsTrue, map, true, false};
 ghost use Rattle.def_explore.specs.Answers.{RestEntry};
 ghost use Rattle.def_run.specs.Run.{moves};
 ghost use Rattle.tn_explore.specs.Query.{Query, AdmitsFor};
-ghost use Rattle.tn_explore.specs.SearchStates.{IsReductionFor, HasEnoughPicks};
+ghost use Rattle.tn_explore.specs.SearchStates.{FollowsAllBy};
 ghost use Rattle.tn_explore.specs.Searches.{IsAt, AreAt, Tries, TriesState, TriesLayer, HaveTried, AnswersEnd};
-ghost use Rattle.tn_explore.specs.Searches.{Explores, answer_entries};
+ghost use Rattle.tn_explore.specs.Searches.{LayerHasRoom, Explores, answer_entries};
 
 use crate::layer::Layer;
-use crate::reduction::Reduction;
 use crate::search_state::SearchState;
 use indexmap::IndexMap;
 use std::alloc::{AllocError, Allocator};
@@ -63,53 +62,27 @@ fn answer<A: Allocator + Copy, S: SearchState<A>>(
     Ok(())
 }
 
-/// This pick alone.
-fn pick_alone<A: Allocator>(alloc: A, pick: u32) -> Result<Vec<u32, A>, AllocError>
-    ensures { IfOk result (λ v. v.items ≡ pick ∷ []) }
-{
-    let mut picks = Vec::new(alloc);
-    picks.push(pick)?;
-    Ok(picks)
-}
-
-/// The picks that are tried after a state: those that may move, or one that goes before the others.
-fn picks_to_try<A: Allocator + Copy, S: SearchState<A>, R: Reduction<S, S::Context>>(
-    alloc: A,
-    context: &S::Context,
-    state: &S,
-) -> Result<Vec<u32, A>, AllocError>
-    ensures { IfOk result (λ v.
-        HasEnoughPicks S.journal (S.is_of context.now) R.leaves_out (R.goes_first context.now) R.room
-        state.now v.items) }
-{
-    let picks = state.picks(alloc, context)?;
-    match R::first_pick(context, state, &picks)? {
-        Some(pick) => pick_alone(alloc, pick),
-        None => Ok(picks),
-    }
-}
-
 /// Tries the picks after a state that are tried. Where none moves, or what is kept is not admitted, it is answered.
-fn try_state<A: Allocator + Copy, S: SearchState<A>, R: Reduction<S, S::Context>>(
+fn try_state<A: Allocator + Copy, S: SearchState<A>>(
     context: &S::Context,
-    filter: &S::Filter,
+    choice: &Choice<'_, S::Filter>,
     state: &S,
     next: &mut Layer<A, S>,
     answers: &mut Answers<A, S::Observation>,
 ) -> Result<(), AllocError>
-    ensures { IfOk result (λ _. (a : Query) (depth : ℕ) → S.filters filter.now a →
-        IsReductionFor S.journal (S.is_of context.now) R.leaves_out (R.goes_first context.now) R.room a →
+    ensures { IfOk result (λ _. (a : Query) (depth : ℕ) → S.filters choice.now.filter.now a →
+        FollowsAllBy choice.now.leaves_out a →
         AreAt S.journal (S.is_of context.now) a (depth + 1) next.old.states.items →
         IsAt S.journal (S.is_of context.now) a depth state.now →
-        TriesState S.journal (S.is_of context.now) R.leaves_out a (depth + 1) state.now
+        TriesState S.journal (S.is_of context.now) choice.now.leaves_out a (depth + 1) state.now
         next.old.states.items next.new.states.items
         (answer_entries S.kept_seen answers.old.entries) (answer_entries S.kept_seen answers.new.entries)) }
 {
     let alloc = next.alloc;
-    if !state.is_admitted(alloc, filter)? {
+    if !state.is_admitted(alloc, choice.filter)? {
         return answer(alloc, state, answers);
     }
-    let picks = picks_to_try::<A, S, R>(alloc, context, state)?;
+    let picks = state.picks(alloc, context, choice.leaves_out)?;
     let moved = try_picks(context, state, &picks, next)?;
     if moved {
         return Ok(());
@@ -119,22 +92,22 @@ fn try_state<A: Allocator + Copy, S: SearchState<A>, R: Reduction<S, S::Context>
 
 /// Tries each state of a layer, while the next has fewer than so many states: whether all were tried. Each is gone once
 /// it was tried, so that the memory of one layer is taken by the next.
-fn try_layer<A: Allocator + Copy, S: SearchState<A>, R: Reduction<S, S::Context>>(
+fn try_layer<A: Allocator + Copy, S: SearchState<A>>(
     context: &S::Context,
-    filter: &S::Filter,
+    choice: &Choice<'_, S::Filter>,
     states: Vec<S, A>,
     next: &mut Layer<A, S>,
     answers: &mut Answers<A, S::Observation>,
     room: usize,
 ) -> Result<bool, AllocError>
     ensures { IfOk result (λ complete. (a : Query) (depth : ℕ) (tried : List (List ℕ)) →
-        S.filters filter.now a →
-        IsReductionFor S.journal (S.is_of context.now) R.leaves_out (R.goes_first context.now) R.room a →
+        S.filters choice.now.filter.now a →
+        FollowsAllBy choice.now.leaves_out a →
         next.old.states.items ≡ [] →
         AreAt S.journal (S.is_of context.now) a depth states.items →
-        HaveTried R.leaves_out a depth (tried ++ map S.journal states.items) tried
+        HaveTried choice.now.leaves_out a depth (tried ++ map S.journal states.items) tried
         (answer_entries S.kept_seen answers.old.entries) →
-        TriesLayer S.journal (S.is_of context.now) R.leaves_out a depth tried states.items
+        TriesLayer S.journal (S.is_of context.now) choice.now.leaves_out a depth tried states.items
         next.new.states.items (answer_entries S.kept_seen answers.new.entries) room complete) }
 {
     let count = states.len();
@@ -146,9 +119,37 @@ fn try_layer<A: Allocator + Copy, S: SearchState<A>, R: Reduction<S, S::Context>
         let Some(state) = rest.pop_front() else {
             return Ok(true);
         };
-        try_state::<A, S, R>(context, filter, &state, next, answers)?;
+        try_state(context, choice, &state, next, answers)?;
     }
     Ok(true)
+}
+
+/// Whether picks are left out, and a journal of the layer may have no room for one more.
+fn is_full<A: Allocator + Copy, S: SearchState<A>>(
+    layer: &Layer<A, S>,
+    leaves_out: bool,
+) -> Result<bool, AllocError>
+    ensures left { IfOk result (λ b. IsTrue b → leaves_out ≡ true) }
+    ensures room { IfOk result (λ b. (x : S.Context) (a : Query) → b ≡ false → leaves_out ≡ true →
+        LayerHasRoom S.journal (S.is_of x) a layer.now.states.items) }
+{
+    if !leaves_out {
+        return Ok(false);
+    }
+    let has_room = layer.has_room()?;
+    if has_room {
+        return Ok(false);
+    }
+    Ok(true)
+}
+
+/// Which runs a search follows, and which picks it leaves out.
+#[derive(Drop)]
+pub struct Choice<'a, F> {
+    /// Which runs are followed.
+    pub filter: &'a F,
+    /// Whether picks are left out, since one goes before them that is independent of all others.
+    pub leaves_out: bool,
 }
 
 /// What a search answers.
@@ -165,20 +166,20 @@ pub struct Exploration<A: Allocator, M: Eq + Hash> {
 /// Tries all states from the first on, until so many were met. A run that is not admitted ends there. None where picks
 /// are left out and a journal may have no room for a pick more: the search that leaves out none answers then. An error
 /// is refused memory.
-pub fn explore<A: Allocator + Copy, S: SearchState<A>, R: Reduction<S, S::Context>>(
+pub fn explore<A: Allocator + Copy, S: SearchState<A>>(
     alloc: A,
     context: &S::Context,
-    filter: &S::Filter,
+    choice: &Choice<'_, S::Filter>,
     first: S,
     max_states: usize,
 ) -> Result<Option<Exploration<A, S::Observation>>, AllocError>
     ensures some { IfOk result (λ o. IfSome o (λ e. (a : Query) →
-        S.is_of context.now first a → S.filters filter.now a →
-        IsReductionFor S.journal (S.is_of context.now) R.leaves_out (R.goes_first context.now) R.room a →
+        S.is_of context.now first a → S.filters choice.now.filter.now a →
+        FollowsAllBy choice.now.leaves_out a →
         S.journal first ≡ moves a.program a.before →
-        Explores R.leaves_out a (answer_entries S.kept_seen e.answers.entries) max_states
+        Explores choice.now.leaves_out a (answer_entries S.kept_seen e.answers.entries) max_states
         e.states e.is_complete)) }
-    ensures none { IfOk result (λ o. IfNone o (R.leaves_out ≡ true)) }
+    ensures none { IfOk result (λ o. IfNone o (choice.now.leaves_out ≡ true)) }
 {
     let mut layer = Layer::new(alloc);
     layer.add(first)?;
@@ -192,14 +193,15 @@ pub fn explore<A: Allocator + Copy, S: SearchState<A>, R: Reduction<S, S::Contex
                 is_complete: true,
             }));
         }
-        if !layer.has_room::<R>() {
+        let full = is_full(&layer, choice.leaves_out)?;
+        if full {
             return Ok(None);
         }
         let mut next = Layer::new(alloc);
         let room = max_states.saturating_sub(states);
-        let is_complete = try_layer::<A, S, R>(
+        let is_complete = try_layer(
             context,
-            filter,
+            choice,
             layer.into_states(),
             &mut next,
             &mut answers,

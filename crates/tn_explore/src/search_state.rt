@@ -8,7 +8,7 @@ pub trait SearchState<A: Allocator>: Sized + Drop {
     ghost use Rattle.std.specs.Prelude.{◌≡◌, ℕ, List, IfOk};
     ghost use Rattle.def_explore.specs.Rests.{KeptMessages};
     ghost use Rattle.tn_explore.specs.Query.{Query};
-    ghost use Rattle.tn_explore.specs.SearchStates.{IsCopy, AdvancesState, HasAllMoves, IsAdmitted, AreSame};
+    ghost use Rattle.tn_explore.specs.SearchStates.{IsCopy, AdvancesState, HasEnoughPicks, IsAdmitted, AreSame};
     ghost use Rattle.tn_explore.specs.SearchStates.{KeepsFor, EqualsByKept};
 
     /// What all states of a search have in common, as the program of a run.
@@ -32,9 +32,15 @@ pub trait SearchState<A: Allocator>: Sized + Drop {
     /// What the definitions keep.
     ghost kept_seen: { Self.Observation → KeptMessages };
 
-    /// The picks that may move.
-    fn picks(&self, alloc: A, context: &Self::Context) -> Result<Vec<u32, A>, AllocError>
-        ensures { IfOk result (λ v. HasAllMoves journal (is_of context.now) self.now v.items) };
+    /// The picks that are tried: those that may move; where picks are left out, perhaps such alone as are independent
+    /// of all others.
+    fn picks(
+        &self,
+        alloc: A,
+        context: &Self::Context,
+        leaves_out: bool,
+    ) -> Result<Vec<u32, A>, AllocError>
+        ensures { IfOk result (λ v. HasEnoughPicks journal (is_of context.now) leaves_out self.now v.items) };
 
     /// Whether the filter admits what is kept of its messages. Where it doesn't, the run ends there.
     fn is_admitted(&self, alloc: A, filter: &Self::Filter) -> Result<bool, AllocError>

@@ -1,7 +1,6 @@
 // The greedy run: at each move the first pick after which what is kept is admitted.
 ghost use Rattle.std.specs.Prelude.{IfOk};
 ghost use Rattle.tn_explore.specs.Query.{Query};
-ghost use Rattle.tn_explore.specs.SearchStates.{HasAllMoves};
 ghost use Rattle.tn_greedy_run.specs.GreedyRuns.{IsAfterPick, IsNextState, IsGreedyState};
 
 use std::alloc::{AllocError, Allocator};
@@ -39,7 +38,7 @@ fn next_state<A: Allocator + Copy, S: SearchState<A>>(
     ensures { IfOk result (λ o. (a : Query) → S.filters filter.now a → S.is_of context.now state.now a →
         IsNextState S.journal (S.is_of context.now) a picks.now state.now o) }
 {
-    let moving = state.picks(alloc, context)?;
+    let moving = state.picks(alloc, context, false)?;
     for pick in picks {
         if moving.contains(pick) {
             let after = state_after(alloc, context, filter, state, *pick)?;

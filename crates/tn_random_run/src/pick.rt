@@ -35,7 +35,7 @@ pub(crate) fn moving_among<A: Allocator + Copy, S: SearchState<A>>(
     ensures { IfOk result (λ v. (a : Query) → S.is_of context.now state.now a →
         AreMovingFor a picks.now (S.journal state.now) v.items) }
 {
-    let all = state.picks(alloc, context)?;
+    let all = state.picks(alloc, context, false)?;
     let mut moving = Vec::new(alloc);
     for pick in picks {
         if is_moving(context, state, &all, *pick)? {

@@ -25,6 +25,7 @@ use Rattle.tn_program.specs.Views.{program_of}
 use Rattle.tn_program.specs.declared.parts.Program as code
 use Rattle.tn_messages.specs.MessageViews.{question_of}
 use Rattle.tn_explore.specs.Query.{Query, HasJournalRoom, AreFirstFor}
+use Rattle.tn_explore.specs.SearchStates.{HaveAllMoves, AreEnough}
 use Rattle.tn_search.specs.FirstPicks.{IsFirstPick, HasNoLinks, HasProcessesAlone, LeavesSessionsFree, GoesFirst}
 use Rattle.tn_search.specs.Probes.{IsNodeAfter, AnswersPick, has_no_event, has_own_steps}
 use Rattle.tn_search.specs.ReadyPicks.{has_command_left}
@@ -172,6 +173,13 @@ module _ {A K F : Type 0} (Keeps : K → List Tree → Type 0) (b : Bool) (x : c
       })))
 
 -- ---- the picks that are tried
+
+pub enough_all : (left : Bool) (a : Query) (journal picks : List ℕ) → HaveAllMoves a journal picks → AreEnough left a journal picks
+enough_all true a journal picks h = inl h
+enough_all false a journal picks h = h
+
+pub enough_first : (left : Bool) (a : Query) (journal picks : List ℕ) (pick : ℕ) → left ≡ true → picks ≡ pick ∷ [] → AreFirstFor a journal (pick ∷ []) → AreEnough left a journal picks
+enough_first left a journal picks pick is alone h = subst (λ l. AreEnough l a journal picks) (sym is) (inr (subst (AreFirstFor a journal) (sym alone) h))
 
 pub if_some : {X : Type 0} (P : X → Type 0) (o : Option X) (x : X) → o ≡ Some x → IfSome o P → P x
 if_some P o x is h = subst (λ r. IfSome r P) is h

@@ -3,8 +3,6 @@ use Rattle.std.proofs.Common.{◌≡◌, ℕ, Bool, true, false, List, Option, S
 use Rattle.std.specs.Prelude.{IfSome, IfNone}
 use Rattle.def_script.specs.Program.{Program}
 use Rattle.def_explore.specs.Rests.{KeptMessages}
-use Rattle.tn_explore.specs.Query.{Query}
-use Rattle.tn_explore.specs.SearchStates.{IsReductionFor}
 use Rattle.tn_explore.specs.declared.search.Exploration.{Exploration}
 use Rattle.tn_messages.specs.declared.kept_listings.KeptListings.{KeptListings}
 use Rattle.tn_search.specs.States.{ExploresPlanned}
@@ -13,14 +11,6 @@ use Rattle.tn_search.specs.declared.exploration.SearchPlan.{SearchPlan}
 pub some_weaker : {X : Type 0} (P Q : X → Type 0) → ((x : X) → P x → Q x) → (o : Option X) → IfSome o P → IfSome o Q
 some_weaker P Q f None h = tt
 some_weaker P Q f (Some x) h = f x h
-
--- where no pick goes before others nothing is left out
-pub nothing_left_out : {S : Type 0} (Journal : S → List ℕ) (IsOf : S → Query → Type 0) (a : Query) → IsReductionFor Journal IsOf false (λ s pick. false ≡ true) (λ s. false ≡ true) a
-nothing_left_out Journal IsOf a = record {
-  left = λ s pick h. h;
-  first = λ s pick h. absurd (let x : false ≡ true = h in cc);
-  room = λ s h. absurd (let x : false ≡ true = h in cc);
-}
 
 -- a search that leaves out none answers
 pub none_left_out : {X : Type 0} (o : Option X) → o ≡ None → IfNone o (false ≡ true) → ⊥

@@ -18,10 +18,6 @@ use Rattle.tn_search.specs.declared.program_state.ProgramState.{ProgramState}
 abbrev pub IsFirstPick : {A K F : Type 0} → (K → List Tree → Type 0) → Bool → code.Program A → ProgramState A K F → ℕ → Type 0
 IsFirstPick Keeps b x s pick = (a : Query) → IsStateFor Keeps b x s a → ((kept : KeptMessages) → a.admits kept ≡ true) → AreFirstFor a (state_journal s) (pick ∷ [])
 
--- the journal of the state has room for a pick more
-abbrev pub HasStateRoom : {A K F : Type 0} → ProgramState A K F → Type 0
-HasStateRoom s = length (state_journal s) < JOURNAL
-
 -- no function makes or removes a link, and the journal has room
 pub record HasNoLinks {A K F : Type 0} (x : code.Program A) (s : ProgramState A K F) : Type 0 where
   pub links : have_link (program_of x).functions ≡ false

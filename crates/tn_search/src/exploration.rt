@@ -1,16 +1,16 @@
 // The search through all schedules of a program.
-ghost use Rattle.std.specs.Prelude.{false, true, IfOk};
+ghost use Rattle.std.specs.Prelude.{◌≡◌, false, true, IfOk, IfSome, IfNone};
+ghost use Rattle.def_explore.specs.Rests.{KeptMessages};
 ghost use Rattle.tn_program.specs.Views.{program_of};
 ghost use Rattle.tn_search.specs.States.{ExploresPlan, ExploresPlanned, IsStateAfter};
 
 use crate::process_sink::ProcessSink;
 use crate::program_state::{ProgramState, copy_places};
-use crate::reduction::FirstPicks;
 use crate::search_sink::SearchSink;
 use crate::total_sink::TotalSink;
 use std::alloc::{AllocError, Allocator};
 use std::marker::PhantomData;
-use tn_explore::{AllPicks, Exploration, explore};
+use tn_explore::{Choice, Exploration, explore};
 use tn_messages::{KeptListings, RunFilter};
 use tn_program::Program;
 use tn_trace::{JOURNAL, Recorder, Run};
@@ -61,6 +61,25 @@ pub(crate) fn state_after<A: Allocator + Copy, K: SearchSink<A> + Drop, F: RunFi
     })
 }
 
+/// The search through all schedules that begin with some picks, by what a state keeps of messages. It may leave out
+/// picks where each run is followed; None where it does, and a journal may have no room for one more.
+fn explore_by<A: Allocator + Copy, K: SearchSink<A> + Drop, F: RunFilter<A>>(
+    alloc: A,
+    program: &Program<A>,
+    filter: &F,
+    plan: &SearchPlan<'_>,
+    leaves_out: bool,
+) -> Result<Option<Exploration<A, KeptListings<A>>>, AllocError>
+    ensures some { let admits = F.admits filter.now in let p = program_of program.now in IfOk result (λ o.
+        IfSome o (λ e. (leaves_out ≡ true → (kept : KeptMessages) → admits kept ≡ true) →
+        ExploresPlanned leaves_out admits K.is_by_process p plan.now e)) }
+    ensures none { IfOk result (λ o. IfNone o (leaves_out ≡ true)) }
+{
+    let first = state_after::<A, K, F>(alloc, program, plan.before, plan.places)?;
+    let choice = Choice { filter, leaves_out };
+    explore(alloc, program, &choice, first, plan.max_states)
+}
+
 /// The search that leaves out no pick.
 fn explore_whole<A: Allocator + Copy, K: SearchSink<A> + Drop, F: RunFilter<A>>(
     alloc: A,
@@ -71,11 +90,7 @@ fn explore_whole<A: Allocator + Copy, K: SearchSink<A> + Drop, F: RunFilter<A>>(
     ensures { let admits = F.admits filter.now in IfOk result
         (ExploresPlanned false admits K.is_by_process (program_of program.now) plan.now) }
 {
-    let first = state_after::<A, K, F>(alloc, program, plan.before, plan.places)?;
-    let limit = plan.max_states;
-    let found = explore::<A, ProgramState<A, K, F>, AllPicks>(
-        alloc, program, filter, first, limit,
-    )?;
+    let found = explore_by::<A, K, F>(alloc, program, filter, plan, false)?;
     match found {
         Some(exploration) => Ok(exploration),
         None => unreachable!(),
@@ -96,11 +111,7 @@ fn explore_reduced<A: Allocator + Copy, K: SearchSink<A> + Drop, F: RunFilter<A>
     if !filter.is_open() {
         return explore_whole::<A, K, F>(alloc, program, filter, plan);
     }
-    let first = state_after::<A, K, F>(alloc, program, plan.before, plan.places)?;
-    let limit = plan.max_states;
-    let found = explore::<A, ProgramState<A, K, F>, FirstPicks>(
-        alloc, program, filter, first, limit,
-    )?;
+    let found = explore_by::<A, K, F>(alloc, program, filter, plan, true)?;
     match found {
         Some(exploration) => Ok(exploration),
         None => explore_whole::<A, K, F>(alloc, program, filter, plan),

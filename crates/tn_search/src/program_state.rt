@@ -1,7 +1,10 @@
 // A state of a program's runs.
 ghost use Rattle.std.specs.Prelude.{◌≡◌, IfOk};
+ghost use Rattle.tn_explore.specs.SearchStates.{HasAllMoves};
+ghost use Rattle.tn_search.specs.States.{IsStateFor, state_journal};
 
 use crate::ready_picks::ready_picks;
+use crate::reduction::{first_pick, pick_alone};
 use crate::search_sink::SearchSink;
 use crate::session_states::{add_slots, same_living, same_slots, share_kept};
 use std::alloc::{AllocError, Allocator};
@@ -34,12 +37,29 @@ pub(crate) fn copy_places<A: Allocator>(
     Ok(copy)
 }
 
+/// The picks that may move a state.
+fn moving_picks<A: Allocator + Copy, K: SearchSink<A> + Drop, F>(
+    alloc: A,
+    program: &Program<A>,
+    state: &ProgramState<A, K, F>,
+) -> Result<Vec<u32, A>, AllocError>
+    ensures { let is_of = IsStateFor K.keeps K.is_by_process program.now in
+        IfOk result (λ v. HasAllMoves state_journal is_of state.now v.items) }
+{
+    let made = state.run.journal().len();
+    if made >= JOURNAL {
+        return Ok(Vec::new(alloc));
+    }
+    let pass = pass_picks(alloc)?;
+    ready_picks(alloc, program, state.run.node(), &pass)
+}
+
 impl<A: Allocator + Copy, K: SearchSink<A> + Drop, F: RunFilter<A>> SearchState<A>
     for ProgramState<A, K, F> {
     ghost use Rattle.std.proofs.Common.{refl};
     ghost use Rattle.tn_messages.specs.MessageViews.{kept_seen};
     ghost use Rattle.tn_messages.proofs.Equal.{by_kept};
-    ghost use Rattle.tn_search.specs.States.{IsFilterFor, IsStateFor, state_journal};
+    ghost use Rattle.tn_search.specs.States.{IsFilterFor};
 
     type Context = Program<A>;
 
@@ -55,13 +75,21 @@ impl<A: Allocator + Copy, K: SearchSink<A> + Drop, F: RunFilter<A>> SearchState<
 
     ghost kept_seen = { kept_seen };
 
-    fn picks(&self, alloc: A, context: &Program<A>) -> Result<Vec<u32, A>, AllocError> {
-        let made = self.run.journal().len();
-        if made >= JOURNAL {
-            return Ok(Vec::new(alloc));
+    fn picks(
+        &self,
+        alloc: A,
+        context: &Program<A>,
+        leaves_out: bool,
+    ) -> Result<Vec<u32, A>, AllocError> {
+        let picks = moving_picks(alloc, context, self)?;
+        if !leaves_out {
+            return Ok(picks);
         }
-        let pass = pass_picks(alloc)?;
-        ready_picks(alloc, context, self.run.node(), &pass)
+        let first = first_pick(context, self, &picks)?;
+        match first {
+            Some(pick) => pick_alone(alloc, pick),
+            None => Ok(picks),
+        }
     }
 
     fn is_admitted(&self, alloc: A, filter: &F) -> Result<bool, AllocError> {

@@ -11,7 +11,7 @@ use crate::ready_picks::has_command_left;
 use crate::search_sink::SearchSink;
 use crate::session_states::are_free;
 use std::alloc::{AllocError, Allocator};
-use tn_explore::{Reduction, SearchState};
+use tn_explore::SearchState;
 use tn_flags::Event;
 use tn_independence::change_links;
 use tn_messages::RunFilter;
@@ -136,7 +136,7 @@ fn has_processes_alone<A: Allocator + Copy, K: SearchSink<A> + Drop, F>(
 
 /// The first of some picks after a state that is independent of all others. None where there is none, or a function
 /// makes or removes a link.
-fn first_pick<A: Allocator + Copy, K: SearchSink<A> + Drop, F: RunFilter<A>>(
+pub(crate) fn first_pick<A: Allocator + Copy, K: SearchSink<A> + Drop, F: RunFilter<A>>(
     program: &Program<A>,
     state: &ProgramState<A, K, F>,
     picks: &[u32],
@@ -159,31 +159,11 @@ fn first_pick<A: Allocator + Copy, K: SearchSink<A> + Drop, F: RunFilter<A>>(
     Ok(None)
 }
 
-/// A pick that is independent of all others goes before them.
-pub(crate) struct FirstPicks;
-
-impl<A: Allocator + Copy, K: SearchSink<A> + Drop, F: RunFilter<A>> Reduction<
-    ProgramState<A, K, F>,
-    Program<A>,
-> for FirstPicks {
-    ghost use Rattle.std.specs.Prelude.{true};
-    ghost use Rattle.tn_search.specs.FirstPicks.{IsFirstPick, HasStateRoom};
-
-    ghost leaves_out = { true };
-
-    ghost goes_first = { IsFirstPick K.keeps K.is_by_process };
-
-    ghost room = { HasStateRoom };
-
-    fn first_pick(
-        context: &Program<A>,
-        state: &ProgramState<A, K, F>,
-        picks: &[u32],
-    ) -> Result<Option<u32>, AllocError> {
-        first_pick(context, state, picks)
-    }
-
-    fn has_room(state: &ProgramState<A, K, F>) -> bool {
-        state.run.journal().len() < JOURNAL
-    }
+/// This pick alone.
+pub(crate) fn pick_alone<A: Allocator>(alloc: A, pick: u32) -> Result<Vec<u32, A>, AllocError>
+    ensures { IfOk result (λ v. v.items ≡ pick ∷ []) }
+{
+    let mut picks = Vec::new(alloc);
+    picks.push(pick)?;
+    Ok(picks)
 }

@@ -1,5 +1,6 @@
 use Rattle.std.proofs.Common.{◌∙◌, ap, sym, refl, arith}
 use Rattle.std.specs.List.{list_any}
+use Rattle.tn_explore.proofs.Searches.{every_move}
 use Rattle.tn_greedy_run.proofs.NextPicks.{unmoving, passed_over, found_at, not_found, none_found}
 use Rattle.tn_greedy_run.proofs.greedy.next_state.Goals as goal
 use Rattle.tn_greedy_run.proofs.greedy.next_state.Goals.{then-contains+in_ok-after+else-is_some+in-Some-1, then-contains+in_ok-after+else-is_some+in-None-1, else-contains}
@@ -23,7 +24,7 @@ loop-pick-preserved g c = λ a filters is_of.
       | then-contains+in_ok-after+else-is_some+in-None-1 w ↦
           not_found J I a c.args.state.now c.args.picks.now c.loop-pick.pick-index w.in_ok-after.after c.loop-pick-test.true (sym w.is_some.ensures ∙ w.if-is_some.false) (w.in_ok-after.ensures a filters is_of) before
       | else-contains w ↦ passed_over J I a c.args.state.now c.args.picks.now c.loop-pick.pick-index c.loop-pick-test.true
-          (unmoving J I a c.args.state.now c.in_ok-moving.moving.items _ c.in_ok-moving.ensures is_of (ap (list_any _) (sym c.deref.ensures.value) ∙ sym c.contains.ensures.value ∙ w.if-contains.false)) before
+          (unmoving J I a c.args.state.now c.in_ok-moving.moving.items _ (every_move J I c.args.state.now c.in_ok-moving.moving.items c.in_ok-moving.ensures) is_of (ap (list_any _) (sym c.deref.ensures.value) ∙ sym c.contains.ensures.value ∙ w.if-contains.false)) before
     ]
 
 pub returns : goal.returns

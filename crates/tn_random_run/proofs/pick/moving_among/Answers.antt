@@ -1,6 +1,7 @@
 use Rattle.std.proofs.Common.{◌≡◌, ◌∙◌, ℕ, ◌++◌, ◌∷◌, [], get_or, ap, sym, subst}
 use Rattle.std.specs.declared.vec.Vec.{Vec}
 use Rattle.tn_explore.specs.SearchStates.{HasAllMoves}
+use Rattle.tn_explore.proofs.Searches.{every_move}
 use Rattle.tn_random_run.proofs.Moves.{moving_more, idle_more, moving_all}
 use Rattle.tn_random_run.proofs.pick.moving_among.Goals as goal
 use Rattle.tn_random_run.proofs.pick.moving_among.Goals.{then-branch+in_ok-push, else-branch}
@@ -12,7 +13,7 @@ loop-pick-preserved g c = λ a is_of.
     let picks = c.args.picks.now in
     let i = c.loop-pick.pick-index in
     let old = c.loop-pick.moving.items in
-    let all = subst (HasAllMoves J (g.S.SearchState.is_of c.args.context.now) s) (sym c.deref.ensures.value) c.in_ok-all.ensures in
+    let all = subst (HasAllMoves J (g.S.SearchState.is_of c.args.context.now) s) (sym c.deref.ensures.value) (every_move J (g.S.SearchState.is_of c.args.context.now) s c.in_ok-all.all.items c.in_ok-all.ensures) in
     let moves = c.in_ok-is_moving.ensures a all is_of in
     let so_far = c.loop-pick.invariant a is_of in
     elim c.if-branch.branch [

@@ -1,8 +1,9 @@
-use Rattle.std.proofs.Common.{true, false, refl}
+use Rattle.std.proofs.Common.{◌≡◌, true, false}
 use Rattle.std.proofs.lemmas.Result.{IfOk-weaker}
+use Rattle.def_explore.specs.Rests.{KeptMessages}
 use Rattle.tn_program.specs.Views.{program_of}
-use Rattle.tn_search.specs.States.{ExploresPlanned, query_of}
-use Rattle.tn_search.proofs.FirstPicks.{has_room_for, if_some}
+use Rattle.tn_search.specs.States.{ExploresPlanned}
+use Rattle.tn_search.proofs.FirstPicks.{if_some}
 use Rattle.tn_search.proofs.Reductions.{whole_says_more}
 use Rattle.tn_search.proofs.exploration.explore_reduced.Goals as goal
 
@@ -16,15 +17,10 @@ returns-then-not-is_open g c =
 
 pub returns-in-Some : goal.returns-in-Some
 returns-in-Some g c =
-    let plan = c.args.plan.now in
     let admits = g.F.RunFilter.admits c.args.filter.now in
-    let a = query_of admits g.K.SearchSink.is_by_process (program_of c.args.program.now) plan.before.now plan.places.now in
-    let said = if_some _ c.in_ok-found.found c.in-Some.exploration c.in-Some.is c.in_ok-found.ensures.some in
-    said a (c.in_ok-first.ensures.0 admits) (λ kept. refl) (record {
-      left = λ s pick first. refl;
-      first = λ s pick first is. first a is (c.is_open.ensures c.if-not-is_open.false);
-      room = λ s room is. has_room_for g.K.MessageSink.keeps g.K.SearchSink.is_by_process c.args.program.now s a is room;
-    }) c.in_ok-first.ensures.1
+    let Planned = ExploresPlanned true admits g.K.SearchSink.is_by_process (program_of c.args.program.now) c.args.plan.now in
+    if_some (λ e. (true ≡ true → (kept : KeptMessages) → admits kept ≡ true) → Planned e) c.in_ok-found.found c.in-Some.exploration c.in-Some.is c.in_ok-found.ensures.some
+    (λ left. c.is_open.ensures c.if-not-is_open.false)
 
 pub returns-in-None : goal.returns-in-None
 returns-in-None g c =

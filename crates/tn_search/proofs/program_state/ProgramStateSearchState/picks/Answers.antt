@@ -1,23 +1,21 @@
-use Rattle.std.proofs.Common.{◌≡◌, ◌∙◌, length, ap, arith}
+use Rattle.std.proofs.Common.{◌≡◌, ◌∷◌, []}
 use Rattle.std.proofs.lemmas.Result.{IfOk-weaker}
-use Rattle.std.specs.List.{filter}
-use Rattle.tn_program.specs.Views.{program_of}
-use Rattle.tn_search.specs.ReadyPicks.{may_move_by}
-use Rattle.tn_search.proofs.Steps.{all_moves, no_moves}
+use Rattle.tn_search.specs.FirstPicks.{IsFirstPick}
+use Rattle.tn_search.specs.States.{state_journal}
+use Rattle.tn_search.proofs.FirstPicks.{enough_all, enough_first, if_some}
 use Rattle.tn_search.proofs.program_state.ProgramStateSearchState.picks.Goals as goal
 
-pub returns-then-made-ge-JOURNAL : goal.returns-then-made-ge-JOURNAL
-returns-then-made-ge-JOURNAL g c = λ a is pick moving.
-    let long : length c.journal-made.result.now ≡ length c.args.self.now.run.journal.items = ap length c.journal-made.ensures in
-    no_moves g.K.MessageSink.keeps g.K.SearchSink.is_by_process c.args.context.now c.args.self.now a is c.new.result.items pick (omega (arith, c.if-made-ge-JOURNAL.true)) moving
+pub returns-then-not-leaves_out : goal.returns-then-not-leaves_out
+returns-then-not-leaves_out g c = λ a is whole. enough_all c.args.leaves_out a (state_journal c.args.self.now) c.in_ok-picks.picks.items (c.in_ok-picks.ensures a is)
 
-pub returns : goal.returns
-returns g c =
-    let Keeps = g.K.MessageSink.keeps in
-    let b = g.K.SearchSink.is_by_process in
+pub returns-in-Some : goal.returns-in-Some
+returns-in-Some g c =
     let s = c.args.self.now in
-    let long : length c.journal-made.result.now ≡ length s.run.journal.items = ap length c.journal-made.ensures in
-    let x = c.args.context.now in
-    IfOk-weaker c.ready_picks.result (λ v. v.items ≡ filter (may_move_by (program_of x) c.node.result.now) c.deref.result.now) _
-    (λ v those a is pick moving. all_moves Keeps b x s a is c.node.result.now c.deref.result.now v.items pick c.node.ensures (c.deref.ensures.value ∙ c.in_ok-pass.ensures) (omega (arith, c.if-made-ge-JOURNAL.false)) those moving)
-    c.ready_picks.ensures
+    let left = c.if-not-leaves_out.false in
+    let first = if_some (IsFirstPick g.K.MessageSink.keeps g.K.SearchSink.is_by_process c.args.context.now s) c.in_ok-first.first c.in-Some.pick c.in-Some.is c.in_ok-first.ensures in
+    IfOk-weaker c.pick_alone.result (λ v. v.items ≡ c.in-Some.pick ∷ []) _
+    (λ v alone a is whole. enough_first c.args.leaves_out a (state_journal s) v.items c.in-Some.pick left alone (first a is (whole left)))
+    c.pick_alone.ensures
+
+pub returns-in-None : goal.returns-in-None
+returns-in-None g c = λ a is whole. enough_all c.args.leaves_out a (state_journal c.args.self.now) c.in_ok-picks.picks.items (c.in_ok-picks.ensures a is)
