@@ -13,6 +13,8 @@ from harness import EMPTY, EXAMPLES, NO_FORMS, PROGRAM, ROWS, SEND_HI, SEND_HI_O
 from harness import TEXT_BYTES, TOP, check, note_of_nobody, run, wants
 from inventories import said_version
 
+COMMANDS = ("run", "replay", "round", "workers", "explain", "draw", "spec", "fun", "explore", "compare", "serve")
+
 
 def tries():
     """The start script where nothing is built: which program answers, its status and what it says."""
@@ -207,6 +209,7 @@ def command_lines():
         check(f"{command} without picks names all sources of picks", usage in ran.stderr, ran)
         check(f"the help of {command} names all sources of picks", either in run([command, "--help"]).stdout)
     usage_errors()
+    widths_of_help()
     spellings_of_processes()
     spellings_of_sessions()
     quiet_runs()
@@ -230,6 +233,15 @@ def control_characters():
         check(f"the words {words}", good and all(letter == "\n" or letter.isprintable() for letter in text), ran)
     ran = run([*SEND_HI_PICKS, "--quiet", "--expect-line", "h\x1bi"], SEND_HI)
     wants("a line with a control character", ran, 1, SEND_HI_OUTPUT, b"error: the output has no line h\\x1bi\n")
+
+
+def widths_of_help():
+    """The help of each command is at most 80 columns wide, but for its usage and for a line with all values of an option."""
+    for words in ([], *([command] for command in COMMANDS)):
+        ran = run([*words, "--help"])
+        lines = [line for line in ran.stdout.decode().splitlines() if "[possible values: " not in line and not line.startswith("Usage: ")]
+        wide = [line for line in lines if len(line) > 80]
+        check(f"the width of the help of {words}", ran.returncode == 0 and len(lines) > 5 and not wide, wide)
 
 
 def usage_errors():
