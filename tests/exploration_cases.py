@@ -191,10 +191,12 @@ def patterns():
 
 
 # Texts that are no patterns, and why.
+NO_TERM = "it spells no term: its variables are '_' and '$1', in quotes"
 NO_PATTERNS = (
-    ("{trace", "it spells no term"),
-    ("a b", "it spells no term"),
-    ("", "it spells no term"),
+    ("{trace", NO_TERM),
+    ("_", NO_TERM),
+    ("a b", NO_TERM),
+    ("", NO_TERM),
     ("{trace,'$1000'}", "an atom of $ and a number in it is no variable"),
     ("[" * 33 + "]" * 33, "it nests too deep"),
     ("1" * 30, "a part of it is past a limit"),
