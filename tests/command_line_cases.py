@@ -253,6 +253,9 @@ def usage_errors():
         (["round", "--max-output", "10k"], f"error: invalid value '10k' for '--max-output <BYTES>': {digits}\n"),
         (["explain", "--round", "--move", "2-4"], f"error: invalid value '2-4' for '--move <N>': {digits}\n"),
         (["explain", "--round", "--quiet"], "error: unexpected argument '--quiet' found\n\nUsage: "),
+        (["rply"], "error: unrecognized subcommand 'rply'\n\n  tip: a similar subcommand exists: 'replay'\n"),
+        (["help", "rply"], "error: unrecognized subcommand 'rply'\n\n  tip: a similar subcommand exists: 'replay'\n"),
+        (["help", "zzz"], "error: unrecognized subcommand 'zzz'\n\nUsage: "),
         (
             ["replay", "--picks", "0", "0", "100"],
             "error: unexpected argument '100' found\n\n  tip: picks are one word, as in --picks '0 100 100'\n\nUsage: ",

@@ -127,12 +127,28 @@ fn explain<R: Print + Eprint + AllocGlobal>(rt: &R, error: &clap::Error) -> Exit
     }
 }
 
-/// The words without control characters, each of which has its escape.
-fn plain_words(alloc: Global, words: &[String]) -> Result<Vec<String>, AllocError> {
+/// Whether the words ask for the help of a command that there isn't.
+fn asks_help_of_none(words: &[String], error: &clap::Error) -> bool {
+    let is_help = match words.get(1) {
+        Some(word) => word.as_str() == "help",
+        None => false,
+    };
+    is_help && error.kind() == ErrorKind::InvalidSubcommand
+}
+
+/// The words without control characters, each of which has its escape; and without the word `help`, where that is asked
+/// for, so that the word after it is refused with the nearest command.
+fn plain_words(
+    alloc: Global,
+    words: &[String],
+    without_help: bool,
+) -> Result<Vec<String>, AllocError> {
     let mut plain = Vec::new(alloc);
-    for word in words {
-        let bytes = escape_controls(alloc, word.as_str())?;
-        plain.push(String::from_utf8_lossy(alloc, &bytes)?)?;
+    for (place, word) in words.iter().enumerate() {
+        if !without_help || place != 1 {
+            let bytes = escape_controls(alloc, word.as_str())?;
+            plain.push(String::from_utf8_lossy(alloc, &bytes)?)?;
+        }
     }
     Ok(plain)
 }
@@ -164,7 +180,7 @@ fn refuse<R: Print + Eprint + AllocGlobal>(
 ) -> ExitCode
     ensures { IsExplorationStatus (exit_status result) }
 {
-    match plain_words(rt.alloc(), words) {
+    match plain_words(rt.alloc(), words, asks_help_of_none(words, error)) {
         Ok(plain) => refuse_plain(rt, &plain, error),
         Err(_) => report(rt, CommandFault::Memory),
     }
