@@ -127,6 +127,16 @@ fn explain<R: Print + Eprint + AllocGlobal>(rt: &R, error: &clap::Error) -> Exit
     }
 }
 
+/// The words without control characters, each of which has its escape.
+fn plain_words(alloc: Global, words: &[String]) -> Result<Vec<String>, AllocError> {
+    let mut plain = Vec::new(alloc);
+    for word in words {
+        let bytes = escape_controls(alloc, word.as_str())?;
+        plain.push(String::from_utf8_lossy(alloc, &bytes)?)?;
+    }
+    Ok(plain)
+}
+
 /// Whether the words ask for the help of a command that there isn't.
 fn asks_help_of_none(words: &[String], error: &clap::Error) -> bool {
     let is_help = match words.get(1) {
@@ -136,21 +146,28 @@ fn asks_help_of_none(words: &[String], error: &clap::Error) -> bool {
     is_help && error.kind() == ErrorKind::InvalidSubcommand
 }
 
-/// The words without control characters, each of which has its escape; and without the word `help`, where that is asked
-/// for, so that the word after it is refused with the nearest command.
-fn plain_words(
-    alloc: Global,
+/// Prints why words without control characters are refused for which `clap` gives this error, or the help. Where the
+/// help of a command is asked for that there isn't, it is refused as the command is, with the nearest one.
+fn explain_words<R: Print + Eprint + AllocGlobal>(
+    rt: &R,
     words: &[String],
-    without_help: bool,
-) -> Result<Vec<String>, AllocError> {
-    let mut plain = Vec::new(alloc);
-    for (place, word) in words.iter().enumerate() {
-        if !without_help || place != 1 {
-            let bytes = escape_controls(alloc, word.as_str())?;
-            plain.push(String::from_utf8_lossy(alloc, &bytes)?)?;
-        }
+    error: &clap::Error,
+) -> ExitCode
+    ensures { IsExplorationStatus (exit_status result) }
+{
+    if !asks_help_of_none(words, error) {
+        return explain(rt, error);
     }
-    Ok(plain)
+    let Some(words) = words.get(1..) else {
+        return explain(rt, error);
+    };
+    let Ok(command) = command(rt.alloc()) else {
+        return report(rt, CommandFault::Memory);
+    };
+    match command.try_get_matches_from(words) {
+        Err(nearest) if nearest.kind() == ErrorKind::InvalidSubcommand => explain(rt, &nearest),
+        _ => explain(rt, error),
+    }
 }
 
 /// The same, where these are the words without control characters.
@@ -167,7 +184,7 @@ fn refuse_plain<R: Print + Eprint + AllocGlobal>(
     match command.try_get_matches_from(words) {
         Ok(_matches) => explain(rt, error),
         Err(error) if error.kind() == ErrorKind::OutOfMemory => { report(rt, CommandFault::Memory) }
-        Err(error) => explain(rt, &error),
+        Err(error) => explain_words(rt, words, &error),
     }
 }
 
@@ -180,7 +197,7 @@ fn refuse<R: Print + Eprint + AllocGlobal>(
 ) -> ExitCode
     ensures { IsExplorationStatus (exit_status result) }
 {
-    match plain_words(rt.alloc(), words, asks_help_of_none(words, error)) {
+    match plain_words(rt.alloc(), words) {
         Ok(plain) => refuse_plain(rt, &plain, error),
         Err(_) => report(rt, CommandFault::Memory),
     }
