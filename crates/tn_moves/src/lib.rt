@@ -15,8 +15,8 @@ mod transcript;
 
 pub use course::{drive, drive_within, moves_of_plan};
 pub use directive::Directive;
-pub use mover::pids_named;
-pub use piece::mover_len;
+pub use mover::{number, pids_named};
+pub use piece::{amount_len, mover_len};
 pub use plan::Plan;
 pub use schedule::Schedule;
 pub use text::{MovesFault, MovesRefusal, directives_of_text};

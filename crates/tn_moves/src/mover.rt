@@ -16,7 +16,11 @@ use tn_text::write_atom;
 const FIRST_PID: u32 = 100;
 
 /// The number below 2^32 that a text writes without a leading zero.
-pub(crate) fn number<A: Allocator>(alloc: A, text: &[u8]) -> Result<Option<u32>, AllocError>
+///
+/// # Errors
+///
+/// AllocError where memory was refused.
+pub fn number<A: Allocator>(alloc: A, text: &[u8]) -> Result<Option<u32>, AllocError>
     ensures { IfOk result (IsNumberRead text.now) }
 {
     match read_picks(alloc, text) {

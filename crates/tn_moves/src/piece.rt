@@ -52,8 +52,8 @@ pub fn mover_len(bytes: &[u8]) -> usize
     bytes.len()
 }
 
-/// How many bytes at the front say how often.
-fn amount_len(bytes: &[u8]) -> usize
+/// How many bytes at the front say how often: all before the first blank or comment.
+pub fn amount_len(bytes: &[u8]) -> usize
     ensures value { result ≡ amount_len bytes.now }
     ensures fits { result ≤ length bytes.now }
 {
