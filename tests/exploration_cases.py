@@ -218,7 +218,7 @@ def bad_explorations():
     end = ran.stdout.decode().splitlines()[-1]
     check("an exploration of few states", ran.returncode == 4 and re.fullmatch(r"not complete: \d+ states? (was|were) met", end), ran)
     for words, told in (
-        (["--session", "nobody"], b"error: the script creates no session nobody\n"),
+        (["--session", "nobody"], b"error: the script creates no session nobody: it creates s1\n"),
         (["--after", "xx"], None),
         (["--after", "0!", "--control", "first"], None),
         (["--max-states", "0"], None),
