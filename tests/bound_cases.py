@@ -88,7 +88,7 @@ def refusals_in_bounds():
     ran = run(["replay", "--picks", "x", "--max-output", "1"], SEND_HI)
     wants("bad picks in one byte", ran, 2, b"refused 20 bad picks\n")
     ran = run([*EXPLAIN, "--move", "9", "--max-output", "1"], SEND_HI)
-    wants("no such move in one byte", ran, 2, b"", b"error: the run has no move 9\n")
+    wants("no such move in one byte", ran, 2, b"", b"error: the run has no move 9: its moves are 1 to 4\n")
 
 
 def bad_bounds():

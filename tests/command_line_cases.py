@@ -13,6 +13,9 @@ from harness import EMPTY, EXAMPLES, NO_FORMS, PROGRAM, ROWS, SEND_HI, SEND_HI_O
 from harness import TEXT_BYTES, TOP, check, note_of_nobody, run, wants
 from inventories import said_version
 
+COMMANDS = ("run", "replay", "round", "workers", "explain", "draw", "spec", "fun", "explore", "compare", "serve")
+OF_A_RETURN = b"expected line %d ends in a carriage return, which no line of an output has\n"
+
 
 def tries():
     """The start script where nothing is built: which program answers, its status and what it says."""
@@ -207,6 +210,8 @@ def command_lines():
         check(f"{command} without picks names all sources of picks", usage in ran.stderr, ran)
         check(f"the help of {command} names all sources of picks", either in run([command, "--help"]).stdout)
     usage_errors()
+    nameless_files()
+    widths_of_help()
     spellings_of_processes()
     spellings_of_sessions()
     quiet_runs()
@@ -232,6 +237,22 @@ def control_characters():
     wants("a line with a control character", ran, 1, SEND_HI_OUTPUT, b"error: the output has no line h\\x1bi\n")
 
 
+def nameless_files():
+    """Files without a name: that the name is empty."""
+    line = b"error: the name of a file is empty\n"
+    for words in (["replay", "", "--picks", "0"], ["replay", "--picks-file", ""], ["run", "--expect", ""], ["spec", "--list", "[]", "--file", ""]):
+        wants(f"a file without a name of {words}", run(words, SEND_HI), 2, b"", line)
+
+
+def widths_of_help():
+    """The help of each command is at most 80 columns wide, but for its usage and for a line with all values of an option."""
+    for words in ([], *([command] for command in COMMANDS)):
+        ran = run([*words, "--help"])
+        lines = [line for line in ran.stdout.decode().splitlines() if "[possible values: " not in line and not line.startswith("Usage: ")]
+        wide = [line for line in lines if len(line) > 80]
+        check(f"the width of the help of {words}", ran.returncode == 0 and len(lines) > 5 and not wide, wide)
+
+
 def usage_errors():
     """Words that are refused: of a number what is expected, and no advice to pass an option as a value."""
     digits = "a decimal number is expected"
@@ -241,6 +262,9 @@ def usage_errors():
         (["round", "--max-output", "10k"], f"error: invalid value '10k' for '--max-output <BYTES>': {digits}\n"),
         (["explain", "--round", "--move", "2-4"], f"error: invalid value '2-4' for '--move <N>': {digits}\n"),
         (["explain", "--round", "--quiet"], "error: unexpected argument '--quiet' found\n\nUsage: "),
+        (["rply"], "error: unrecognized subcommand 'rply'\n\n  tip: a similar subcommand exists: 'replay'\n"),
+        (["help", "rply"], "error: unrecognized subcommand 'rply'\n\n  tip: a similar subcommand exists: 'replay'\n"),
+        (["help", "zzz"], "error: unrecognized subcommand 'zzz'\n\nUsage: "),
         (
             ["replay", "--picks", "0", "0", "100"],
             "error: unexpected argument '100' found\n\n  tip: picks are one word, as in --picks '0 100 100'\n\nUsage: ",
@@ -281,7 +305,7 @@ def spellings_of_sessions():
     check("a session with a blank", bare.returncode == 0 and b"  'a b': " in bare.stdout, bare)
     wants("a session with a blank in quotes", run([*explain, "'a b'"], blank), 0, bare.stdout)
     for text in ("'s1", "s1'", "'", "''s1''", "'s\\1'", "'s'1'", '"s1"'):
-        told = f"error: the script creates no session {text}\n".encode()
+        told = f"error: the script creates no session {text}: it creates s1, s2\n".encode()
         wants(f"the session {text}", run([*explain, text], two), 2, b"", told)
 
 
@@ -346,7 +370,8 @@ def expectations():
                 wants(f"{name} rejects {line}", run([*words, "--reject-line", line], SEND_HI), 0, output, b"")
             number = output.count(b"\n")
             changed = output.replace(third.encode(), b"another", 1)
-            less = b"".join(output.splitlines(keepends=True)[:-1])
+            output_lines = output.splitlines(keepends=True)
+            less = b"".join(output_lines[:-1])
             unprintable = aligned(changed, output).replace(b"-another\n", b"-(a line that isn't printable)\n")
             texts = {
                 "a line that differs": (changed, aligned(changed, output)),
@@ -356,6 +381,8 @@ def expectations():
                 "one line less": (less, aligned(less, output)),
                 "no last line feed": (output[:-1], b"line %d differs in the line feed at its end\n" % number),
                 "no text": (b"", aligned(b"", output)),
+                "carriage returns": (output.replace(b"\n", b"\r\n"), OF_A_RETURN % 1),
+                "one carriage return": (b"".join([*output_lines[:2], output_lines[2][:-1] + b"\r\n", *output_lines[3:]]), OF_A_RETURN % 3),
             }
             for kind, (text, told) in texts.items():
                 other.write_bytes(text)

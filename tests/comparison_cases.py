@@ -419,7 +419,7 @@ def bad_traces():
     ran = compare(b"{", "", [])
     check("compare with a bad script", (ran.returncode, ran.stdout) == (2, b"refused 2 token at 1\n"), ran)
     ran = compare(SEND_HI, "", ["--session", "nobody"])
-    check("compare without its session", ran.returncode == 2 and ran.stderr == b"error: the script creates no session nobody\n", ran)
+    check("compare without its session", ran.returncode == 2 and ran.stderr == b"error: the script creates no session nobody: it creates s1\n", ran)
     ran = compare(SEND_HI, "", ["--max-output", "10"])
     check("compare past its bound", ran.returncode == 3 and not ran.stdout and ran.stderr.startswith(b"fault"), ran)
 

@@ -215,10 +215,12 @@ def patterns():
 
 
 # Texts that are no patterns, and why.
+NO_TERM = "it spells no term: its variables are '_' and '$1', in quotes"
 NO_PATTERNS = (
-    ("{trace", "it spells no term"),
-    ("a b", "it spells no term"),
-    ("", "it spells no term"),
+    ("{trace", NO_TERM),
+    ("_", NO_TERM),
+    ("a b", NO_TERM),
+    ("", NO_TERM),
     ("{trace,'$1000'}", "an atom of $ and a number in it is no variable"),
     ("[" * 33 + "]" * 33, "it nests too deep"),
     ("1" * 30, "a part of it is past a limit"),
@@ -240,7 +242,7 @@ def bad_explorations():
     end = ran.stdout.decode().splitlines()[-1]
     check("an exploration of few states", ran.returncode == 4 and re.fullmatch(r"not complete: \d+ states? (was|were) met", end), ran)
     for words, told in (
-        (["--session", "nobody"], b"error: the script creates no session nobody\n"),
+        (["--session", "nobody"], b"error: the script creates no session nobody: it creates s1\n"),
         (["--after", "xx"], None),
         (["--after", "0!", "--control", "first"], None),
         (["--max-states", "0"], None),

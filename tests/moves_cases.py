@@ -19,8 +19,9 @@ LISTED = """== session s tracer t
 # After the three commands 100 calls go, calls tell, sends, returns, calls tell, sends, returns and ends; 101 calls rest,
 # receives twice and ends. A pass moves both where both can move.
 CONTROL_FIRST = "0 0 0 100 101 100 100 101 100 100 100 101 100 101 100"
-HOW_OFTEN = "nothing, `!` or `*` with a number up to 65535"
-A_NUMBER = f"a number below 4294967296 without a leading zero is expected, and then {HOW_OFTEN}"
+SO_OFTEN = "* a number up to 65535 without a leading zero is expected, found"
+A_NUMBER = "a number below 4294967296 without a leading zero is expected, found"
+A_MOVER = "a number, a name or `*` alone is expected, found"
 
 # Two processes in one function, one in a function whose name needs quotes, and one in a function with a quote in its name.
 NAMES = rb"""{function,m,f,exported,[],[]}.
@@ -120,25 +121,36 @@ def moves():
 def bad_moves():
     """Texts that are no moves: where, and why."""
     here = "; go is <0.100.0>, rest is <0.101.0>\n"
-    none = "no initial process starts in a function '{}'"
+    none = "no initial process starts in a function {}"
+    quotes = ": a name has quotes only where its atom needs them"
+    commas = ": moves have blanks between them, and no commas"
+    alone = ": a function is written by its name alone"
+    number = ": a process is written by the number in its pid, as 100 for <0.100.0>"
     rows = {
         "gox": f"1:1: {none.format('gox')}{here}",
         "0! tell": f"1:4: {none.format('tell')}{here}",
         "0!\n % go\n  Go!": f"3:3: {none.format('Go')}{here}",
-        "go,rest": f"1:1: {none.format('go,rest')}{here}",
-        "'go'": f"1:1: {none.format(chr(39) + 'go' + chr(39))}{here}",
-        "'go": f"1:1: {none.format(chr(39) + 'go')}{here}",
-        "go*65536": f"1:1: after go {HOW_OFTEN} is expected\n",
-        "go go*": f"1:4: after go {HOW_OFTEN} is expected\n",
-        "go!!": f"1:1: after go {HOW_OFTEN} is expected\n",
-        "go*01": f"1:1: after go {HOW_OFTEN} is expected\n",
-        "go*-1": f"1:1: after go {HOW_OFTEN} is expected\n",
-        "007": f"1:1: {A_NUMBER}\n",
-        "4294967296": f"1:1: {A_NUMBER}\n",
-        "0!x": f"1:1: {A_NUMBER}\n",
-        "0 !": "1:3: a number, a name or `*` alone is expected\n",
-        "**": "1:1: a number, a name or `*` alone is expected\n",
-        "*3": "1:1: a number, a name or `*` alone is expected\n",
+        "go,rest": f"1:1: {none.format('go,rest')}{commas}{here}",
+        "'go'!": f"1:1: {none.format(chr(39) + 'go' + chr(39))}{quotes}{here}",
+        "'go": f"1:1: {none.format(chr(39) + 'go')}{quotes}{here}",
+        "<0.100.0>!": f"1:1: {none.format('<0.100.0>')}{number}{here}",
+        "0! m:go!": f"1:4: {none.format('m:go')}{alone}{here}",
+        "go/0": f"1:1: {none.format('go/0')}{alone}{here}",
+        "go*65536": f"1:1: after go{SO_OFTEN} '65536'\n",
+        "go go*": f"1:4: after go{SO_OFTEN} nothing\n",
+        "go!!": "1:1: after go! a blank is expected, found '!'\n",
+        "go*01": f"1:1: after go{SO_OFTEN} '01'\n",
+        "go*-1": f"1:1: after go{SO_OFTEN} '-1'\n",
+        "0*x": f"1:1: after 0{SO_OFTEN} 'x'\n",
+        "0*70000": f"1:1: after 0{SO_OFTEN} '70000'\n",
+        "0!,go!": "1:1: after 0! a blank is expected, found ',go!'\n",
+        "007": f"1:1: {A_NUMBER} '007'\n",
+        "4294967296": f"1:1: {A_NUMBER} '4294967296'\n",
+        "0,go!": f"1:1: {A_NUMBER} '0,go'\n",
+        "0!x": "1:1: after 0! a blank is expected, found 'x'\n",
+        "0 !": f"1:3: {A_MOVER} '!'\n",
+        "**": f"1:1: {A_MOVER} '**'\n",
+        "*3": f"1:1: {A_MOVER} '*3'\n",
         "0\n\u00e9": f"2:1: {none.format('??')}{here}",
     }
     for text, told in rows.items():

@@ -1,9 +1,9 @@
 -- What is said has the line feeds of the words that it is given, and few of its own.
-use Rattle.std.proofs.Common.{◌≡◌, ◌+◌, ℕ, List, ◌++◌, codes, decimal, refl, ◌∙◌, arith, Some, None}
+use Rattle.std.proofs.Common.{◌≡◌, ◌+◌, ℕ, zero, suc, List, [], ◌∷◌, ◌++◌, codes, decimal, refl, ◌∙◌, arith, Option, Some, None}
 use Rattle.def_text.specs.Places.{line_feeds}
 use Rattle.def_text.proofs.Columns.{line_feeds-append}
 use Rattle.def_notice.specs.FaultTexts.{FaultSaid, of_reading, of_writing, of_memory, of_workers, of_bytes, of_listings, of_expectation, output_text, fault_text}
-use Rattle.def_notice.specs.DifferenceTexts.{Side, expected_output, found_output, OutputDifference, one_line, two_lines, lines_without_text, last_line_feed, no_line, end_of_output, more_lines, more_differences, AlignedSide, of_both, of_expected, of_found, LineRange, range_text, aligned_sign, aligned_output, aligned_ranges, aligned_line, side_text, numbered_line, output_difference_text}
+use Rattle.def_notice.specs.DifferenceTexts.{Side, expected_output, found_output, OutputDifference, one_line, two_lines, lines_without_text, last_line_feed, no_line, end_of_output, more_lines, more_differences, line_with_return, AlignedSide, of_both, of_expected, of_found, LineRange, range_text, aligned_sign, aligned_output, aligned_ranges, aligned_line, side_text, numbered_line, output_difference_text}
 use Rattle.def_notice.specs.NoticeTexts.{NodeCommand, by_same_picks, by_journal, node_command_text, TestText, the_list, the_caller, the_specification, test_text_name, TestTextFault, is_no_list, is_no_function, is_too_long, goes_on_otherwise, is_too_deep, is_too_large, has_no_memory, fault_in_words, test_fault_text, InputText, the_script, the_picks, the_moves, the_output, the_listing, input_text_name, Notice, given_line, of_fault, of_fault_because, no_file, both_from_input, no_value, of_test_text, no_session, no_move, no_node_move, no_chosen_move, no_forms, pick_of_nobody, node_moves, of_difference, lacks_a_line, has_a_line, lacks_a_listing, notice_text}
 use Rattle.def_notice.specs.NoticeLaws.{words_of_test_fault, words_of_notice, line_feeds_of_notice}
 use Rattle.def_notice.proofs.LineFeeds.{decimal_has_none}
@@ -90,6 +90,7 @@ difference_is_a_line (no_line s) = side_and_words s (codes " no line here") refl
 difference_is_a_line (end_of_output s) = side_and_words s (codes " the end of the output") refl
 difference_is_a_line (more_lines s) = side_and_words s (codes " more lines") refl
 difference_is_a_line more_differences = refl
+difference_is_a_line (line_with_return n) = before_none (decimal n) (codes " ends in a carriage return, which no line of an output has") refl ∙ decimal_has_none n
 difference_is_a_line (aligned_output expected_output) = refl
 difference_is_a_line (aligned_output found_output) = refl
 difference_is_a_line (aligned_ranges one other) = ranges_are_a_line one other
@@ -163,9 +164,9 @@ value_is_three_lines text option reason =
     let last : line_feeds (notice_text (no_value text option reason)) ≡ line_feeds (two ++ reason) + 2 = line_feeds-append (two ++ reason) end in
     omega (arith, last, line_feeds-append two reason, before_none (one ++ option) (codes "': ") refl, line_feeds-append one option, before_none text (codes "' for '") refl, line_feeds-append (text ++ option) reason, line_feeds-append text option)
 
-file_is_a_line : (path reason : List ℕ) → line_feeds (notice_text (no_file path reason)) ≡ line_feeds (path ++ reason) + 0
+file_is_a_line : (path reason : List ℕ) → line_feeds (codes "error: " ++ path ++ codes ": " ++ reason) ≡ line_feeds (path ++ reason) + 0
 file_is_a_line path reason =
-    let last : line_feeds (notice_text (no_file path reason)) ≡ line_feeds (path ++ codes ": ") + line_feeds reason = line_feeds-append (path ++ codes ": ") reason in
+    let last : line_feeds (codes "error: " ++ path ++ codes ": " ++ reason) ≡ line_feeds (path ++ codes ": ") + line_feeds reason = line_feeds-append (path ++ codes ": ") reason in
     omega (arith, last, before_none path (codes ": ") refl, line_feeds-append path reason)
 
 reason_is_a_line : (f : FaultSaid) (reason : List ℕ) → line_feeds (notice_text (of_fault_because f reason)) ≡ line_feeds reason + 0
@@ -173,16 +174,29 @@ reason_is_a_line f reason =
     let last : line_feeds (notice_text (of_fault_because f reason)) ≡ line_feeds (fault_text f ++ codes ": ") + line_feeds reason = line_feeds-append (fault_text f ++ codes ": ") reason in
     omega (arith, last, before_none (fault_text f) (codes ": ") refl, fault_is_a_line f)
 
+sessions_are_a_line : (name sessions : List ℕ) → line_feeds (notice_text (no_session name (Some sessions))) ≡ line_feeds (name ++ sessions) + 0
+sessions_are_a_line name [] = omega (arith, before_none name (codes ": it creates none") refl, before_none name [] refl)
+sessions_are_a_line name (b ∷ bs) =
+    let text : line_feeds (codes ": it creates " ++ (b ∷ bs)) ≡ line_feeds (b ∷ bs) = refl in
+    omega (arith, line_feeds-append name (codes ": it creates " ++ (b ∷ bs)), text, line_feeds-append name (b ∷ bs))
+
+moves_of_run_are_a_line : (n : ℕ) (moves : Option ℕ) → line_feeds (notice_text (no_move n moves)) ≡ 0
+moves_of_run_are_a_line n None = before_none (decimal n) [] refl ∙ decimal_has_none n
+moves_of_run_are_a_line n (Some zero) = before_none (decimal n) (codes ": it has none") refl ∙ decimal_has_none n
+moves_of_run_are_a_line n (Some (suc m)) = before_none (decimal n) (codes ": its moves are 1 to " ++ decimal (suc m)) (decimal_has_none (suc m)) ∙ decimal_has_none n
+
 pub notice_is_a_line : (n : Notice) → line_feeds (notice_text n) ≡ line_feeds (words_of_notice n) + line_feeds_of_notice n
 notice_is_a_line (given_line line) = omega arith
 notice_is_a_line (of_fault f) = fault_is_a_line f
 notice_is_a_line (of_fault_because f reason) = reason_is_a_line f reason
-notice_is_a_line (no_file path reason) = file_is_a_line path reason
+notice_is_a_line (no_file [] reason) = refl
+notice_is_a_line (no_file (b ∷ bs) reason) = file_is_a_line (b ∷ bs) reason
 notice_is_a_line (both_from_input one other) = inputs_are_a_line one other
 notice_is_a_line (no_value text option reason) = value_is_three_lines text option reason
 notice_is_a_line (of_test_text t f) = test_is_a_line t f
-notice_is_a_line (no_session name) = omega arith
-notice_is_a_line (no_move n) = decimal_has_none n
+notice_is_a_line (no_session name None) = before_none name [] refl ∙ omega arith
+notice_is_a_line (no_session name (Some sessions)) = sessions_are_a_line name sessions
+notice_is_a_line (no_move n moves) = moves_of_run_are_a_line n moves
 notice_is_a_line no_node_move = refl
 notice_is_a_line no_chosen_move = refl
 notice_is_a_line no_forms = refl

@@ -6,7 +6,7 @@ use Rattle.def_term.specs.Text.{is_written_bare}
 use Rattle.def_text.specs.Places.{place_at}
 use Rattle.def_notice.specs.FaultTexts.{of_reading, of_writing, of_memory, of_workers, of_bytes, of_listings, of_expectation, broken_pipe, refused_memory}
 use Rattle.def_notice.specs.MovesTexts.{MovesReason, no_mover, no_number, no_count, no_start, many_starts, too_many_bytes, no_directive_at, bad_moves_text}
-use Rattle.def_notice.specs.DifferenceTexts.{expected_output, found_output, one_line, two_lines, lines_without_text, last_line_feed, no_line, end_of_output, more_lines, more_differences, of_both, of_expected, of_found, aligned_output, aligned_ranges, aligned_line}
+use Rattle.def_notice.specs.DifferenceTexts.{expected_output, found_output, one_line, two_lines, lines_without_text, last_line_feed, no_line, end_of_output, more_lines, more_differences, line_with_return, return_difference, of_both, of_expected, of_found, aligned_output, aligned_ranges, aligned_line}
 use Rattle.def_notice.specs.NoticeTexts.{by_same_picks, by_journal, the_list, the_caller, the_specification, is_no_list, is_no_function, is_too_long, is_too_deep, fault_in_words, the_script, the_picks, the_moves, the_output, the_listing, Notice, of_fault, of_fault_because, no_file, both_from_input, no_value, of_test_text, no_session, no_move, no_node_move, no_chosen_move, no_forms, pick_of_nobody, node_moves, of_difference, lacks_a_line, has_a_line, lacks_a_listing, notice_text, notice_of_fault}
 
 -- this is the line
@@ -51,6 +51,9 @@ reader_without_memory = refl
 absent_file : Says (no_file (codes "a\\x1bb") (codes "No such file or directory (os error 2)")) "error: a\\x1bb: No such file or directory (os error 2)"
 absent_file = refl
 
+file_without_name : Says (no_file [] (codes "No such file or directory (os error 2)")) "error: the name of a file is empty"
+file_without_name = refl
+
 picks_and_script : Says (both_from_input the_script the_picks) "error: the script and the picks can't both be standard input"
 picks_and_script = refl
 
@@ -86,12 +89,26 @@ no_match_specification = refl
 
 -- ---- accounts and runs
 
-another_session : Says (no_session (codes "s9")) "error: the script creates no session s9"
+another_session : Says (no_session (codes "s9") None) "error: the script creates no session s9"
 another_session = refl
 
-move_too_far : Says (no_move 31) "error: the run has no move 31"
+no_session_at_all : Says (no_session (codes "s9") (Some [])) "error: the script creates no session s9: it creates none"
+no_session_at_all = refl
+
+session_of_two : Says (no_session (codes "zz") (Some (codes "s, t"))) "error: the script creates no session zz: it creates s, t"
+session_of_two = refl
+
+move_too_far : Says (no_move 31 None) "error: the run has no move 31"
 unfolding digits
 move_too_far = refl
+
+move_past_the_last : Says (no_move 99 (Some 4)) "error: the run has no move 99: its moves are 1 to 4"
+unfolding digits
+move_past_the_last = refl
+
+move_of_none : Says (no_move 1 (Some 0)) "error: the run has no move 1: it has none"
+unfolding digits
+move_of_none = refl
 
 nothing_otherwise : Says no_node_move "note: a running node is known to do nothing otherwise there"
 nothing_otherwise = refl
@@ -132,6 +149,19 @@ a_byte_more : Says (of_difference (one_line found_output 8 None)) "found line 8,
 unfolding digits
 a_byte_more = refl
 
+line_of_windows : Says (of_difference (line_with_return 1)) "expected line 1 ends in a carriage return, which no line of an output has"
+unfolding digits
+line_of_windows = refl
+
+return_expected : return_difference 2 (codes "a\r") (codes "a") ≡ Some (line_with_return 2)
+return_expected = refl
+
+return_in_both : return_difference 2 (codes "a\r") (codes "\r") ≡ None
+return_in_both = refl
+
+no_return : return_difference 2 [] (codes "a") ≡ None
+no_return = refl
+
 no_feed : Says (of_difference (last_line_feed 7)) "line 7 differs in the line feed at its end"
 unfolding digits
 no_feed = refl
@@ -163,23 +193,51 @@ Refuses text at r s = bad_moves_text (no_directive_at (place_at (codes text) at)
 long_moves : bad_moves_text too_many_bytes ≡ codes "moves: longer than 1048576 bytes"
 long_moves = refl
 
-another_name : Refuses "0! gox" 3 (no_start (codes "gox") (codes "go" ∷ codes "rest" ∷ [])) "moves:1:4: no initial process starts in a function 'gox'; go is <0.100.0>, rest is <0.101.0>"
+another_name : Refuses "0! gox" 3 (no_start (codes "gox") (codes "go" ∷ codes "rest" ∷ [])) "moves:1:4: no initial process starts in a function gox; go is <0.100.0>, rest is <0.101.0>"
 unfolding digits is_written_bare
 another_name = refl
+
+a_pid : Refuses "<0.100.0>!" 0 (no_start (codes "<0.100.0>") (codes "go" ∷ [])) "moves:1:1: no initial process starts in a function <0.100.0>: a process is written by the number in its pid, as 100 for <0.100.0>; go is <0.100.0>"
+unfolding digits is_written_bare
+a_pid = refl
+
+a_name_in_quotes : Refuses "'go'!" 0 (no_start (codes "'go'") (codes "go" ∷ [])) "moves:1:1: no initial process starts in a function 'go': a name has quotes only where its atom needs them; go is <0.100.0>"
+unfolding digits is_written_bare
+a_name_in_quotes = refl
+
+a_name_with_a_module : Refuses "m:go!" 0 (no_start (codes "m:go") (codes "go" ∷ [])) "moves:1:1: no initial process starts in a function m:go: a function is written by its name alone; go is <0.100.0>"
+unfolding digits is_written_bare
+a_name_with_a_module = refl
+
+a_name_with_an_arity : Refuses "go/0" 0 (no_start (codes "go/0") (codes "go" ∷ [])) "moves:1:1: no initial process starts in a function go/0: a function is written by its name alone; go is <0.100.0>"
+unfolding digits is_written_bare
+a_name_with_an_arity = refl
+
+names_with_a_comma : Refuses "go,go!" 0 (no_start (codes "go,go") (codes "go" ∷ [])) "moves:1:1: no initial process starts in a function go,go: moves have blanks between them, and no commas; go is <0.100.0>"
+unfolding digits is_written_bare
+names_with_a_comma = refl
 
 a_name_of_two : Refuses "go" 0 (many_starts (codes "go") (100 ∷ 102 ∷ [])) "moves:1:1: several initial processes start in a function go: <0.100.0>, <0.102.0>"
 unfolding digits
 a_name_of_two = refl
 
-too_often : Refuses "go go*" 3 (no_count (codes "go")) "moves:1:4: after go nothing, `!` or `*` with a number up to 65535 is expected"
+too_often : Refuses "go go*" 3 (no_count (codes "go") (codes "*")) "moves:1:4: after go* a number up to 65535 without a leading zero is expected, found nothing"
 unfolding digits
 too_often = refl
 
-no_number_there : Refuses "007" 0 no_number "moves:1:1: a number below 4294967296 without a leading zero is expected, and then nothing, `!` or `*` with a number up to 65535"
+too_many_times : Refuses "0*70000" 0 (no_count (codes "0") (codes "*70000")) "moves:1:1: after 0* a number up to 65535 without a leading zero is expected, found '70000'"
+unfolding digits
+too_many_times = refl
+
+comma_after_idle : Refuses "0!,go!" 0 (no_count (codes "0") (codes "!,go!")) "moves:1:1: after 0! a blank is expected, found ',go!'"
+unfolding digits
+comma_after_idle = refl
+
+no_number_there : Refuses "007" 0 (no_number (codes "007")) "moves:1:1: a number below 4294967296 without a leading zero is expected, found '007'"
 unfolding digits
 no_number_there = refl
 
-all_and_more : Refuses "0 !" 2 no_mover "moves:1:3: a number, a name or `*` alone is expected"
+all_and_more : Refuses "0 !" 2 (no_mover (codes "!")) "moves:1:3: a number, a name or `*` alone is expected, found '!'"
 unfolding digits
 all_and_more = refl
 

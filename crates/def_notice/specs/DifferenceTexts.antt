@@ -1,6 +1,7 @@
 -- What an output that isn't the one that is expected has otherwise, and the line that says it (own): the exit status is 1.
 -- Depends on nothing. Lines are counted from 1, and a line that isn't printable has no text here.
-use Rattle.std.specs.Prelude.{◌≡◌, ◌≢◌, ◌⊎◌, ℕ, Bool, List, ◌++◌, Option, Some, None, codes, decimal, if◌then◌else◌}
+use Rattle.std.specs.Prelude.{◌≡◌, ◌≢◌, ◌⊎◌, ℕ, ◌-◌, Bool, ◌&&◌, not, List, ◌++◌, length, drop, Option, Some, None, codes, decimal, if◌then◌else◌}
+use Rattle.std.specs.Str.{bytes_eq}
 
 -- one of the two outputs
 pub data Side : Type 0 where
@@ -47,6 +48,8 @@ pub data OutputDifference : Type 0 where
   -- there is more to say
   more_lines : Side → OutputDifference
   more_differences : OutputDifference
+  -- a line that is expected ends in a carriage return
+  line_with_return : (number : ℕ) → OutputDifference
   -- of an alignment, as `diff -u` has it: which sign is of which output, which lines come next, and a line
   aligned_output : Side → OutputDifference
   aligned_ranges : (expected found : LineRange) → OutputDifference
@@ -77,6 +80,7 @@ output_difference_text (no_line side) = side_text side ++ codes " no line here"
 output_difference_text (end_of_output side) = side_text side ++ codes " the end of the output"
 output_difference_text (more_lines side) = side_text side ++ codes " more lines"
 output_difference_text more_differences = codes "more lines may differ"
+output_difference_text (line_with_return n) = codes "expected line " ++ decimal n ++ codes " ends in a carriage return, which no line of an output has"
 output_difference_text (aligned_output side) = aligned_name side
 output_difference_text (aligned_ranges one other) = codes "@@ -" ++ range_text one ++ codes " +" ++ range_text other ++ codes " @@"
 output_difference_text (aligned_line side text) = aligned_sign side ++ aligned_text text
@@ -91,6 +95,14 @@ SaysLine side n line x = (x ≡ one_line side n (Some line)) ⊎ (x ≡ one_line
 abbrev pub SaysPair : ℕ → (expected found : List ℕ) → Option OutputDifference → Type 0
 SaysPair n one other None = one ≡ other
 SaysPair n one other (Some x) = (one ≢ other) × ((x ≡ two_lines n one other) ⊎ (x ≡ lines_without_text n))
+
+-- the line ends in a carriage return
+abbrev pub ends_in_return : List ℕ → Bool
+ends_in_return line = bytes_eq (drop (length line - 1) line) (codes "\r")
+
+-- of two lines of one number: that the expected one ends in a carriage return, where the other doesn't
+abbrev pub return_difference : ℕ → (expected found : List ℕ) → Option OutputDifference
+return_difference n one other = if ends_in_return one && not (ends_in_return other) then Some (line_with_return n) else None
 
 -- of a line of an alignment: its text, or that it isn't printable
 abbrev pub SaysAlignedLine : AlignedSide → List ℕ → OutputDifference → Type 0

@@ -1,6 +1,7 @@
 -- Why a text of moves is refused, and the line that says it (own): the exit status is 2.
 -- Depends on the texts of atoms and pids, on the first pid, on places in a text and on what is printable.
-use Rattle.std.specs.Prelude.{ℕ, suc, List, [], ◌∷◌, ◌++◌, map, codes, decimal, if◌then◌else◌}
+use Rattle.std.specs.Prelude.{ℕ, suc, ◌==◌, Bool, false, List, [], ◌∷◌, ◌++◌, map, drop, codes, decimal, if◌then◌else◌}
+use Rattle.std.specs.List.{list_any}
 use Rattle.def_term.specs.Alive.{FIRST_PID}
 use Rattle.def_term.specs.Names.{Name}
 use Rattle.def_term.specs.Text.{atom_text, pid_text}
@@ -9,12 +10,12 @@ use Rattle.def_text.specs.Tokens.{is_printable}
 
 -- why no directive stands at a piece of the text
 pub data MovesReason : Type 0 where
-  -- nothing that may move stands there
-  no_mover : MovesReason
-  -- a digit is first, and what stands there is no number, or not how often it moves
-  no_number : MovesReason
-  -- how often the process with this name moves isn't what stands after it
-  no_count : (name : List ℕ) → MovesReason
+  -- nothing that may move stands there, but this
+  no_mover : (found : List ℕ) → MovesReason
+  -- a digit is first, and this is no number
+  no_number : (found : List ℕ) → MovesReason
+  -- how often this moves isn't what stands after it
+  no_count : (mover amount : List ℕ) → MovesReason
   -- no initial process starts in a function of this name; in these they start
   no_start : (name : List ℕ) → (functions : List Name) → MovesReason
   -- several do, which have these pids
@@ -51,12 +52,46 @@ starts_after between pid (f ∷ fs) = one_start_text between pid f ++ starts_aft
 abbrev pub starts_text : List Name → List ℕ
 starts_text fs = starts_after (codes "; ") FIRST_PID fs
 
+-- what stands there instead
+abbrev pub instead_text : List ℕ → List ℕ
+instead_text [] = codes ", found nothing"
+instead_text (b ∷ bs) = codes ", found '" ++ plain_bytes (b ∷ bs) ++ codes "'"
+
+-- the first byte is `*`
+abbrev pub begins_with_star : List ℕ → Bool
+begins_with_star [] = false
+begins_with_star (b ∷ bs) = b == 42
+
+-- what may stand after who moves: after `*` how often, and after `!` nothing
+abbrev pub amount_text : List ℕ → List ℕ
+amount_text amount = (if begins_with_star amount then codes "* a number up to 65535 without a leading zero is expected" else codes "! a blank is expected") ++ instead_text (drop 1 amount)
+
+-- one of the bytes is this one
+abbrev pub has_mark : ℕ → List ℕ → Bool
+has_mark mark name = list_any (λ b. b == mark) name
+
+-- how a name is written that has a comma, a colon or a slash
+abbrev pub marks_hint_text : List ℕ → List ℕ
+marks_hint_text name =
+    if has_mark 44 name then codes ": moves have blanks between them, and no commas" else
+    if has_mark 58 name then codes ": a function is written by its name alone" else
+    if has_mark 47 name then codes ": a function is written by its name alone" else
+    []
+
+-- how who moves is written, where this is a pid, begins with a quote or has such a mark
+abbrev pub mover_hint_text : List ℕ → List ℕ
+mover_hint_text [] = []
+mover_hint_text (b ∷ bs) =
+    if b == 60 then codes ": a process is written by the number in its pid, as 100 for <0.100.0>" else
+    if b == 39 then codes ": a name has quotes only where its atom needs them" else
+    marks_hint_text (b ∷ bs)
+
 -- the reason in words
 abbrev pub moves_reason_text : MovesReason → List ℕ
-moves_reason_text no_mover = codes "a number, a name or `*` alone is expected"
-moves_reason_text no_number = codes "a number below 4294967296 without a leading zero is expected, and then nothing, `!` or `*` with a number up to 65535"
-moves_reason_text (no_count name) = codes "after " ++ plain_bytes name ++ codes " nothing, `!` or `*` with a number up to 65535 is expected"
-moves_reason_text (no_start name fs) = codes "no initial process starts in a function '" ++ plain_bytes name ++ codes "'" ++ starts_text fs
+moves_reason_text (no_mover found) = codes "a number, a name or `*` alone is expected" ++ instead_text found
+moves_reason_text (no_number found) = codes "a number below 4294967296 without a leading zero is expected" ++ instead_text found
+moves_reason_text (no_count mover amount) = codes "after " ++ plain_bytes mover ++ amount_text amount
+moves_reason_text (no_start name fs) = codes "no initial process starts in a function " ++ plain_bytes name ++ mover_hint_text name ++ starts_text fs
 moves_reason_text (many_starts name ns) = codes "several initial processes start in a function " ++ plain_bytes name ++ codes ": " ++ pids_text ns
 moves_reason_text no_program = []
 

@@ -1,6 +1,6 @@
 -- What is promised of the lines that a command says beside its output (own).
 -- Depends on what these are, and on line feeds.
-use Rattle.std.specs.Prelude.{◌≡◌, ◌↔◌, ◌+◌, ℕ, List, [], ◌++◌, Option, Some, None}
+use Rattle.std.specs.Prelude.{◌≡◌, ◌↔◌, ◌+◌, ℕ, List, [], ◌∷◌, ◌++◌, Option, Some, None}
 use Rattle.def_text.specs.Places.{line_feeds}
 use Rattle.def_notice.specs.FaultTexts.{FaultSaid, SystemReason, broken_pipe}
 use Rattle.def_notice.specs.DifferenceTexts.{OutputDifference, one_line, two_lines, aligned_line}
@@ -22,10 +22,12 @@ words_of_test_fault f = []
 abbrev pub words_of_notice : Notice → List ℕ
 words_of_notice (given_line line) = line
 words_of_notice (of_fault_because f reason) = reason
-words_of_notice (no_file path reason) = path ++ reason
+words_of_notice (no_file [] reason) = []
+words_of_notice (no_file (b ∷ bs) reason) = (b ∷ bs) ++ reason
 words_of_notice (no_value text option reason) = text ++ option ++ reason
 words_of_notice (of_test_text text f) = words_of_test_fault f
-words_of_notice (no_session name) = name
+words_of_notice (no_session name None) = name
+words_of_notice (no_session name (Some sessions)) = name ++ sessions
 words_of_notice (of_difference x) = words_of_difference x
 words_of_notice (lacks_a_line line) = line
 words_of_notice (has_a_line line) = line

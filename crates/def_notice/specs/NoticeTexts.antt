@@ -1,6 +1,6 @@
 -- A line that a command says beside its output, on standard error (own).
 -- Depends on faults and on how an output differs from the one that is expected.
-use Rattle.std.specs.Prelude.{ℕ, List, ◌++◌, Option, Some, None, codes, decimal}
+use Rattle.std.specs.Prelude.{ℕ, zero, suc, List, [], ◌∷◌, ◌++◌, Option, Some, None, codes, decimal}
 use Rattle.def_notice.specs.FaultTexts.{FaultSaid, of_memory, fault_text, SystemReason, broken_pipe, refused_memory, in_words}
 use Rattle.def_notice.specs.DifferenceTexts.{OutputDifference, output_difference_text}
 
@@ -82,9 +82,10 @@ pub data Notice : Type 0 where
   no_value : (text option reason : List ℕ) → Notice
   -- a text of the test of a match specification
   of_test_text : TestText → TestTextFault → Notice
-  -- what is asked of an account: there is no such session, no such move, and no move at which a running node differs
-  no_session : (name : List ℕ) → Notice
-  no_move : (number : ℕ) → Notice
+  -- what is asked of an account: there is no such session, no such move, and no move at which a running node differs;
+  -- where it is known, which sessions are created, and how many moves there are
+  no_session : (name : List ℕ) → (sessions : Option (List ℕ)) → Notice
+  no_move : (number : ℕ) → (moves : Option ℕ) → Notice
   no_node_move : Notice
   no_chosen_move : Notice
   -- of a run
@@ -97,19 +98,36 @@ pub data Notice : Type 0 where
   has_a_line : (line : List ℕ) → Notice
   lacks_a_listing : (name : List ℕ) → Notice
 
+-- which sessions a script creates
+abbrev pub sessions_text : Option (List ℕ) → List ℕ
+sessions_text None = []
+sessions_text (Some []) = codes ": it creates none"
+sessions_text (Some (b ∷ bs)) = codes ": it creates " ++ (b ∷ bs)
+
+-- which moves a run has
+abbrev pub moves_text : Option ℕ → List ℕ
+moves_text None = []
+moves_text (Some zero) = codes ": it has none"
+moves_text (Some (suc n)) = codes ": its moves are 1 to " ++ decimal (suc n)
+
+-- a file that can't be opened; it may have no name
+abbrev pub no_file_text : (path reason : List ℕ) → List ℕ
+no_file_text [] reason = codes "error: the name of a file is empty"
+no_file_text (b ∷ bs) reason = codes "error: " ++ (b ∷ bs) ++ codes ": " ++ reason
+
 -- the line
 abbrev pub notice_text : Notice → List ℕ
 notice_text (given_line line) = line
 notice_text (of_fault f) = fault_text f
 notice_text (of_fault_because f reason) = fault_text f ++ codes ": " ++ reason
-notice_text (no_file path reason) = codes "error: " ++ path ++ codes ": " ++ reason
+notice_text (no_file path reason) = no_file_text path reason
 notice_text (both_from_input one other) =
     codes "error: the " ++ input_text_name one ++ codes " and the " ++ input_text_name other ++ codes " can't both be standard input"
 notice_text (no_value text option reason) =
     codes "error: invalid value '" ++ text ++ codes "' for '" ++ option ++ codes "': " ++ reason ++ codes "\n\nFor more information, try '--help'."
 notice_text (of_test_text text f) = test_text_name text ++ codes ": " ++ test_fault_text f
-notice_text (no_session name) = codes "error: the script creates no session " ++ name
-notice_text (no_move n) = codes "error: the run has no move " ++ decimal n
+notice_text (no_session name sessions) = codes "error: the script creates no session " ++ name ++ sessions_text sessions
+notice_text (no_move n moves) = codes "error: the run has no move " ++ decimal n ++ moves_text moves
 notice_text no_node_move = codes "note: a running node is known to do nothing otherwise there"
 notice_text no_chosen_move = codes "error: the pattern selects no move of the run"
 notice_text no_forms = codes "note: the script has no forms"

@@ -137,6 +137,48 @@ fn plain_words(alloc: Global, words: &[String]) -> Result<Vec<String>, AllocErro
     Ok(plain)
 }
 
+/// Whether the words ask for the help of a command that there isn't.
+fn asks_help_of_none(words: &[String], error: &clap::Error) -> bool {
+    let is_help = match words.get(1) {
+        Some(word) => word.as_str() == "help",
+        None => false,
+    };
+    is_help && error.kind() == ErrorKind::InvalidSubcommand
+}
+
+/// Prints why these words are refused, where they name a command that there isn't, or else this error.
+fn explain_nearest<R: Print + Eprint + AllocGlobal>(
+    rt: &R,
+    words: &[String],
+    error: &clap::Error,
+) -> ExitCode
+    ensures { IsExplorationStatus (exit_status result) }
+{
+    let Ok(command) = command(rt.alloc()) else {
+        return report(rt, CommandFault::Memory);
+    };
+    match command.try_get_matches_from(words) {
+        Ok(_matches) => explain(rt, error),
+        Err(nearest) if nearest.kind() == ErrorKind::InvalidSubcommand => explain(rt, &nearest),
+        Err(_nearest) => explain(rt, error),
+    }
+}
+
+/// Prints why words without control characters are refused for which `clap` gives this error, or the help. Where the
+/// help of a command is asked for that there isn't, it is refused as the command is, with the nearest one.
+fn explain_words<R: Print + Eprint + AllocGlobal>(
+    rt: &R,
+    words: &[String],
+    error: &clap::Error,
+) -> ExitCode
+    ensures { IsExplorationStatus (exit_status result) }
+{
+    if asks_help_of_none(words, error) && words.len() > 1 {
+        return explain_nearest(rt, &words[1..], error);
+    }
+    explain(rt, error)
+}
+
 /// The same, where these are the words without control characters.
 fn refuse_plain<R: Print + Eprint + AllocGlobal>(
     rt: &R,
@@ -151,7 +193,7 @@ fn refuse_plain<R: Print + Eprint + AllocGlobal>(
     match command.try_get_matches_from(words) {
         Ok(_matches) => explain(rt, error),
         Err(error) if error.kind() == ErrorKind::OutOfMemory => { report(rt, CommandFault::Memory) }
-        Err(error) => explain(rt, &error),
+        Err(error) => explain_words(rt, words, &error),
     }
 }
 

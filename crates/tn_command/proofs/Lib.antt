@@ -3,6 +3,7 @@ mod StatusLemmas
 mod PrintLemmas
 mod FormLemmas
 mod ExplorationLemmas
+mod SessionTexts
 mod SpecNotes
 mod SpecNoteRows
 mod SpecNoteTerms

@@ -6,6 +6,7 @@ ghost use Rattle.tn_command.specs.Notices.{node_command_of, notice_of_account};
 
 use crate::moves_line::tell_run_refusal;
 use crate::remarks::{forms_notice, print_notices, tell_schedule_picks, tell_schedule_remarks};
+use crate::run_outline::{RunOutline, move_count, names_text, sessions_of};
 use crate::stderr::{NamedText, node_notice, run_fault};
 use std::alloc::Global;
 use tn_explain::{ExplainOutcome, ExplainRequest};
@@ -95,17 +96,48 @@ fn node_command(schedule: &Schedule<'_>) -> NodeCommand
 }
 
 /// What is said of the outcome of an account that is asked for of the session of a name, or of the move of a number.
-fn account_notice(outcome: ExplainOutcome, name: &str, number: u64) -> Option<Notice<'_>>
-    ensures { notices_seen result ≡ notice_of_account outcome name.now number }
+fn account_notice<'a>(
+    outcome: ExplainOutcome,
+    name: &'a str,
+    number: u64,
+    known: RunOutline<'a>,
+) -> Option<Notice<'a>>
+    ensures { notices_seen result ≡ notice_of_account outcome name.now number known.entry }
 {
+    let RunOutline { sessions, moves } = known;
     match outcome {
         ExplainOutcome::Account => None,
         ExplainOutcome::Refused(_) => None,
-        ExplainOutcome::NoSession => Some(Notice::NoSession { name }),
-        ExplainOutcome::NoMove => Some(Notice::NoMove { number }),
+        ExplainOutcome::NoSession => Some(Notice::NoSession { name, sessions }),
+        ExplainOutcome::NoMove => Some(Notice::NoMove { number, moves }),
         ExplainOutcome::NoDifference => Some(Notice::NoNodeMove),
         ExplainOutcome::NoMessage => Some(Notice::NoChosenMove),
     }
+}
+
+/// Says why there is no account.
+fn tell_no_account<R: Eprint + AllocGlobal>(
+    rt: &R,
+    request: &ExplainRequest<'_>,
+    outcome: ExplainOutcome,
+    script: NamedText<'_>,
+) {
+    let plain = escape_controls(rt.alloc(), request.filter.session.unwrap_or(""));
+    let name = plain_name(&plain, "of this name");
+    let number = request.filter.move_number.unwrap_or(0);
+    let sessions = match outcome {
+        ExplainOutcome::NoSession => sessions_of(rt.alloc(), script.bytes),
+        _ => None,
+    };
+    let moves = match outcome {
+        ExplainOutcome::NoMove => move_count(rt.alloc(), script.bytes, &request.schedule),
+        _ => None,
+    };
+    let known = RunOutline {
+        sessions: names_text(&sessions),
+        moves,
+    };
+    print_notices(rt, account_notice(outcome, name, number, known));
 }
 
 impl Command for Replay<'_> {
@@ -184,12 +216,7 @@ impl Command for ExplainRequest<'_> {
             ExplainOutcome::Refused(refusal) => {
                 tell_run_refusal(rt, refusal, script, schedule_text(&self.schedule));
             }
-            _ => {
-                let plain = escape_controls(rt.alloc(), self.filter.session.unwrap_or(""));
-                let name = plain_name(&plain, "of this name");
-                let number = self.filter.move_number.unwrap_or(0);
-                print_notices(rt, account_notice(outcome, name, number));
-            }
+            _ => tell_no_account(rt, self, outcome, script),
         }
     }
 

@@ -11,6 +11,7 @@ use crate::jobs::{INPUT, Streams, perform_over, print_end, script_of};
 use crate::last_error::LastError;
 use crate::moves_line::tell_run_refusal;
 use crate::remarks::{forms_notice, print_notices};
+use crate::run_outline::{names_text, sessions_of};
 use crate::source::{Source, open};
 use crate::status::UNMET;
 use crate::stderr::{NamedText, run_fault};
@@ -53,7 +54,9 @@ impl Command for ExploreRequest<'_> {
             ExploreOutcome::NoSession => {
                 let plain = escape_controls(rt.alloc(), self.session.unwrap_or(""));
                 let name = plain_name(&plain, "of this name");
-                print_notice(rt, Notice::NoSession { name });
+                let names = sessions_of(rt.alloc(), script.bytes);
+                let sessions = names_text(&names);
+                print_notice(rt, Notice::NoSession { name, sessions });
             }
             ExploreOutcome::Refused(refusal) => {
                 tell_run_refusal(rt, refusal, script, schedule_text(&self.schedule));

@@ -22,6 +22,7 @@ mod output_fault;
 mod output_form;
 mod picks;
 mod remarks;
+mod run_outline;
 mod source;
 mod spec_format;
 mod spec_lists;

@@ -33,7 +33,7 @@ pub(crate) struct Place<'a> {
 }
 
 /// The first line of a text, and what is after it; nothing and nothing where there is none.
-fn line_of(text: &[u8]) -> (&[u8], &[u8])
+pub(crate) fn line_of(text: &[u8]) -> (&[u8], &[u8])
     ensures line { result.0.now ≡ before_byte 10 text.now }
     ensures after { result.1.now ≡ past_byte 10 text.now }
 {

@@ -1,9 +1,11 @@
 // What an output has otherwise than the one that is expected.
 ghost use Rattle.std.specs.Prelude.{◌≤◌, length};
 
-use crate::alignment::{MOST_LINES, Place, print_difference, tell_aligned};
+use crate::alignment::{MOST_LINES, Place, line_of, print_difference, tell_aligned};
 use tn_formats::first_line;
-use tn_notice::{OutputDifference, Side, lack_of_lines, line_difference, pair_difference};
+use tn_notice::{
+    OutputDifference, Side, lack_of_lines, line_difference, pair_difference, return_difference,
+};
 
 /// Says of the lines from this number on, which one of the two outputs alone has, what was expected or found.
 fn tell_lines<R: Eprint>(rt: &R, side: Side, first: u64, text: &[u8]) {
@@ -108,8 +110,23 @@ fn without_common_end<'a>(place: &Place<'a>) -> Place<'a> {
     }
 }
 
+/// Says where two outputs differ that are the same before this place, which is at most two lines after the other; or
+/// that the expected line here ends in a carriage return.
+fn tell_from<R: Eprint + AllocGlobal>(rt: &R, place: &Place<'_>, before: &Place<'_>) {
+    let (line, _) = line_of(place.expected);
+    let (found, _) = line_of(place.found);
+    if let Some(difference) = return_difference(place.expected_number, line, found) {
+        print_difference(rt, difference);
+        return;
+    }
+    if !tell_aligned(rt, without_common_end(before)) {
+        tell_by_number(rt, place);
+    }
+}
+
 /// Says where an output differs from the one that is expected: their alignment, from two lines before the first change
 /// to two lines after the last; or, where there are too many lines, each line that differs from the one of its number.
+/// Where the first expected line that differs ends in a carriage return, that alone is said.
 pub(crate) fn tell_difference<R: Eprint + AllocGlobal>(rt: &R, expected: &[u8], output: &[u8]) {
     let mut place = Place {
         expected,
@@ -139,7 +156,5 @@ pub(crate) fn tell_difference<R: Eprint + AllocGlobal>(rt: &R, expected: &[u8], 
             found_number: place.found_number.saturating_add(1),
         };
     }
-    if !tell_aligned(rt, without_common_end(&two_before)) {
-        tell_by_number(rt, &place);
-    }
+    tell_from(rt, &place, &two_before);
 }

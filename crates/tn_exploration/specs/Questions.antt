@@ -40,7 +40,7 @@ AddsQuestions d texts old new = (qs : List words.PatternQuestion) × EachPair (I
 -- why a text spells no term
 abbrev pub no_term_words : TextFault → List ℕ
 no_term_words faults.TooLong = codes "it has more than 1048576 bytes"
-no_term_words (faults.Token at) = codes "it spells no term"
+no_term_words (faults.Token at) = codes "it spells no term: its variables are '_' and '$1', in quotes"
 no_term_words (faults.TooDeep at) = codes "it nests too deep"
 no_term_words (faults.TooLarge at) = codes "a part of it is past a limit"
 no_term_words faults.OutOfMemory = codes "out of memory"

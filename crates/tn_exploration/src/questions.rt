@@ -23,7 +23,7 @@ fn no_term_words(fault: TextFault) -> &'static str
 {
     match fault {
         TextFault::TooLong => "it has more than 1048576 bytes",
-        TextFault::Token { .. } => "it spells no term",
+        TextFault::Token { .. } => "it spells no term: its variables are '_' and '$1', in quotes",
         TextFault::TooDeep { .. } => "it nests too deep",
         TextFault::TooLarge { .. } => "a part of it is past a limit",
         TextFault::OutOfMemory => "out of memory",

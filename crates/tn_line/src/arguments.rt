@@ -23,7 +23,7 @@ pub(crate) fn picks<'a>(alloc: Global) -> Arg<'a>
     Arg::new(alloc, "picks")
         .long("picks")
         .value_name("TEXT")
-        .help("The picks: decimal numbers, one space between each two")
+        .help("The picks: decimal numbers, one space between\neach two")
         .allow_hyphen_values(true)
         .action(ArgAction::Set)
 }
@@ -46,7 +46,7 @@ pub(crate) fn moves<'a>(alloc: Global) -> Arg<'a>
     Arg::new(alloc, "moves")
         .long("moves")
         .value_name("TEXT")
-        .help("The moves: N, N*K, N!, where N is a number or a function, and * for everybody")
+        .help("The moves: N, N*K, N!, where N is a number or a\nfunction, and * for everybody")
         .allow_hyphen_values(true)
         .action(ArgAction::Set)
 }
@@ -104,7 +104,7 @@ pub(crate) fn summary<'a>(alloc: Global) -> Arg<'a>
 {
     Arg::new(alloc, "summary")
         .long("summary")
-        .help("Prints how many messages and bytes each session has, in place of the messages")
+        .help("Prints how many messages and bytes each session\nhas, in place of the messages")
         .action(ArgAction::SetTrue)
 }
 
@@ -133,7 +133,7 @@ pub(crate) fn expect_session<'a>(alloc: Global) -> Result<Arg<'a>, AllocError>
         .long("expect-session")
         .value_names(LISTING)
         .num_args(2)
-        .help("The listing of this session must be these lines, or else the exit status is 1")
+        .help("The listing of this session must be these lines,\nor else the exit status is 1")
         .action(ArgAction::Set)
         .conflicts_with("json")
 }
@@ -149,7 +149,7 @@ pub(crate) fn expect<'a>(alloc: Global) -> Arg<'a>
         .long("expect")
         .value_name("FILE")
         .help(
-            "The output must be the bytes of this file, or else the exit status is 1; - is standard input",
+            "The output must be the bytes of this file, or else\nthe exit status is 1; - is standard input",
         )
         .action(ArgAction::Set)
 }
@@ -161,7 +161,9 @@ pub(crate) fn expect_line<'a>(alloc: Global) -> Arg<'a>
     Arg::new(alloc, "expect-line")
         .long("expect-line")
         .value_name("TEXT")
-        .help("The output must have this line, or else the exit status is 1; it may be given again")
+        .help(
+            "The output must have this line, or else the exit\nstatus is 1; it may be given again",
+        )
         .allow_hyphen_values(true)
         .action(ArgAction::Append)
 }
@@ -174,7 +176,7 @@ pub(crate) fn reject_line<'a>(alloc: Global) -> Arg<'a>
         .long("reject-line")
         .value_name("TEXT")
         .help(
-            "The output must not have this line, or else the exit status is 1; it may be given again",
+            "The output must not have this line, or else the\nexit status is 1; it may be given again",
         )
         .allow_hyphen_values(true)
         .action(ArgAction::Append)
@@ -187,7 +189,7 @@ pub(crate) fn strict<'a>(alloc: Global) -> Arg<'a>
     Arg::new(alloc, "strict")
         .long("strict")
         .help(
-            "Each command must be done, and the script must have forms, or else the exit status is 1",
+            "Each command must be done, and the script must have\nforms, or else the exit status is 1",
         )
         .action(ArgAction::SetTrue)
 }
@@ -202,7 +204,7 @@ pub(crate) fn max_output<'a>(alloc: Global) -> Arg<'a>
         .long("max-output")
         .value_name("BYTES")
         .help(
-            "How many bytes the output may have, from 1 to 4294967295; where it has more, nothing is written",
+            "How many bytes the output may have, from 1 to\n4294967295; where it has more, nothing is\nwritten",
         )
         .value_parser(value_parser!(u32).range(1..=4294967295))
         .default_value("1073741824")
@@ -218,7 +220,7 @@ pub(crate) fn output<'a>(alloc: Global) -> Arg<'a>
         .short('o')
         .value_name("FILE")
         .help(
-            "The file that the output goes to, whole or not at all; standard output where it is absent",
+            "The file that the output goes to, whole or not at\nall; standard output where it is absent",
         )
         .action(ArgAction::Set)
 }
@@ -231,7 +233,7 @@ pub(crate) fn session<'a>(alloc: Global) -> Arg<'a>
         .long("session")
         .value_name("NAME")
         .help(
-            "Explains what the session of this name, in quotes or not, makes of the run, and no other",
+            "Explains what the session of this name, in quotes\nor not, makes of the run, and no other",
         )
         .allow_hyphen_values(true)
         .action(ArgAction::Set)
@@ -244,7 +246,7 @@ pub(crate) fn move_number<'a>(alloc: Global) -> Arg<'a>
     Arg::new(alloc, "move")
         .long("move")
         .value_name("N")
-        .help("Explains the move of this number alone, counted from 1")
+        .help("Explains the move of this number alone, counted\nfrom 1")
         .value_parser(value_parser!(u32))
         .action(ArgAction::Set)
 }
@@ -255,7 +257,7 @@ pub(crate) fn node<'a>(alloc: Global) -> Arg<'a>
 {
     Arg::new(alloc, "node")
         .long("node")
-        .help("Explains the moves alone that a running node does otherwise")
+        .help("Explains the moves alone that a running node does\notherwise")
         .action(ArgAction::SetTrue)
 }
 
@@ -274,7 +276,7 @@ pub(crate) fn message<'a>(alloc: Global) -> Result<Arg<'a>, AllocError>
     let message = Arg::new(alloc, "message")
         .long("message")
         .value_name("PATTERN")
-        .help("Explains the moves alone at which a session sends a message that matches PATTERN")
+        .help("Explains the moves alone at which a session sends a\nmessage that matches PATTERN")
         .allow_hyphen_values(true)
         .action(ArgAction::Set);
     without_moves(message, "why-not")
@@ -289,7 +291,7 @@ pub(crate) fn why_not<'a>(alloc: Global) -> Result<Arg<'a>, AllocError>
         .long("why-not")
         .value_name("PATTERN")
         .help(
-            "Explains the moves alone whose message would match PATTERN, where a session sends none",
+            "Explains the moves alone whose message would match\nPATTERN, where a session sends none",
         )
         .allow_hyphen_values(true)
         .action(ArgAction::Set);
@@ -315,7 +317,7 @@ pub(crate) fn limit<'a>(alloc: Global) -> Arg<'a>
     Arg::new(alloc, "limit")
         .long("limit")
         .value_name("N")
-        .help("How many picks may move, from 1 to 65536")
+        .help("How many picks may move,\nfrom 1 to 65536")
         .value_parser(value_parser!(u32).range(1..=65536))
         .default_value("10000")
         .action(ArgAction::Set)
@@ -331,7 +333,7 @@ pub(crate) fn control<'a>(alloc: Global) -> Arg<'a>
     Arg::new(alloc, "control")
         .long("control")
         .value_name("ORDER")
-        .help("When all commands of the control list are taken: first, before the rounds")
+        .help("When all commands of the control list are taken:\nfirst, before the rounds")
         .value_parser(ORDERS)
         .action(ArgAction::Set)
 }
@@ -378,7 +380,7 @@ pub(crate) fn turns<'a>(alloc: Global) -> Arg<'a>
     Arg::new(alloc, "turns")
         .long("turns")
         .value_name("T")
-        .help("How many turns each worker takes at most, from 1 to 65536")
+        .help("How many turns each worker takes at most,\nfrom 1 to 65536")
         .value_parser(value_parser!(u32).range(1..=65536))
         .default_value("1000")
         .action(ArgAction::Set)
@@ -391,7 +393,9 @@ pub(crate) fn spread<'a>(alloc: Global) -> Arg<'a>
     Arg::new(alloc, "spread")
         .long("spread")
         .value_name("SEED")
-        .help("Each turn gives way to other workers some times, by this number, so that races show")
+        .help(
+            "Each turn gives way to other workers some times, by\nthis number, so that races show",
+        )
         .value_parser(value_parser!(u32))
         .action(ArgAction::Set)
 }
@@ -405,7 +409,7 @@ pub(crate) fn list<'a>(alloc: Global) -> Arg<'a>
         .long("list")
         .value_name("TERM")
         .help(
-            "The list: [Arg, ..] of a call, [Receiver, Message] of a send, [Node, Sender, Message] of a receive; it may be given again",
+            "The list: [Arg, ..] of a call, [Receiver, Message] of a\nsend, [Node, Sender, Message] of a receive; it may be\ngiven again",
         )
         .required(true)
         .allow_hyphen_values(true)
@@ -424,7 +428,7 @@ pub(crate) fn event<'a>(alloc: Global) -> Arg<'a>
         .long("for")
         .value_name("EVENT")
         .help(
-            "What the specification is for, and the one flag that the process has: call, send or receive",
+            "What the specification is for, and\nthe one flag that the process has: call, send or receive\n",
         )
         .value_parser(EVENTS)
         .default_value("call")
@@ -440,7 +444,7 @@ pub(crate) fn own_process<'a>(alloc: Global) -> Arg<'a>
         .long("me")
         .value_name("N")
         .help(
-            "The process whose event it is: a number N or a pid <0.N.0>; no other process has a flag",
+            "The process whose event it is: a number N or a pid\n<0.N.0>; no other process has a flag",
         )
         .default_value("100")
         .action(ArgAction::Set)
@@ -453,7 +457,7 @@ pub(crate) fn caller<'a>(alloc: Global) -> Arg<'a>
     Arg::new(alloc, "caller")
         .long("caller")
         .value_name("TERM")
-        .help("The function that the call comes from, {Module,Function,Arity}")
+        .help("The function that the call comes from,\n{Module,Function,Arity}")
         .allow_hyphen_values(true)
         .action(ArgAction::Set)
 }

@@ -24,8 +24,9 @@ const VERSION: &str = "0.1.0\nlogic dac8208d650f15bf";
 
 /// What stands below the commands in the help.
 const MORE: &str = "\
-A pick says which process moves next: 0 takes the next command of the control list, and a number from 100
-on the process with this pid, where 100 is <0.100.0>. The initial processes are 100, 101, .. in their order.
+A pick says which process moves next: 0 takes the next command of the control
+list, and a number from 100 on the process with this pid, where 100 is
+<0.100.0>. The initial processes are 100, 101, .. in their order.
 
 Examples:
   tracenode run examples/send_hi.term
@@ -33,11 +34,14 @@ Examples:
 
 Exit status:
   0  the output was written
-  1  the output was written, and isn't what --expect, --expect-session, --expect-line or --reject-line
-     says, or an exploration refutes --always, --never or --sometimes, or no run shows the trace, or a
-     command is refused, matches no function or has a match specification that does nothing, under --strict
+  1  the output was written, and isn't what --expect, --expect-session,
+     --expect-line or --reject-line says, or an exploration refutes --always,
+     --never or --sometimes, or no run shows the trace, or a command is
+     refused, matches no function or has a match specification that does
+     nothing, under --strict
   2  the script, the picks or the command line is refused
-  3  a fault: a failed read or write, a lack of memory, or an output past --max-output
+  3  a fault: a failed read or write, a lack of memory, or an output past
+     --max-output
   4  an exploration or a comparison that ended before it had tried all states";
 
 /// A command that runs the script by picks or moves, with `--picks TEXT`, `--picks-file FILE`, `--moves TEXT` or
@@ -91,7 +95,7 @@ fn replay<'a>(alloc: Global) -> Result<Command<'a>, AllocError>
     ensures arguments { IfOk result (IsCommand (codes "replay") REPLAY) }
     ensures picks { IfOk result (WantsOneOf PICKS) }
 {
-    let about = "Runs the script by the given picks or moves, and prints what its sessions saw";
+    let about = "Runs the script by the given picks or moves, and prints what its\nsessions saw";
     let sources = one_of_picks(alloc)?;
     let command = by_picks(alloc, "replay", about, sources)?.arg(quiet(alloc))?;
     let command = with_formats(alloc, command)?;
@@ -123,7 +127,7 @@ fn explain<'a>(alloc: Global) -> Result<Command<'a>, AllocError>
     ensures picks { IfOk result (WantsOneOf PICKS_OR_ROUND) }
 {
     let about =
-        "Runs the script by picks, moves or rounds, and prints why each session tells or doesn't";
+        "Runs the script by picks, moves or rounds, and prints why each\nsession tells or doesn't";
     let command = by_picks_or_rounds(alloc, "explain", about)?
         .arg(session(alloc))?
         .arg(move_number(alloc))?
@@ -141,7 +145,7 @@ fn draw<'a>(alloc: Global) -> Result<Command<'a>, AllocError>
     ensures picks { IfOk result (WantsOneOf PICKS_OR_ROUND) }
 {
     let about =
-        "Runs the script by picks, moves or rounds, and prints a sequence diagram of it as SVG";
+        "Runs the script by picks, moves or rounds, and prints a sequence\ndiagram of it as SVG";
     let command = by_picks_or_rounds(alloc, "draw", about)?.arg(text(alloc))?;
     with_expectation(alloc, command)
 }
@@ -151,7 +155,9 @@ fn run<'a>(alloc: Global) -> Result<Command<'a>, AllocError>
     ensures { IfOk result (IsCommand (codes "run") RUN) }
 {
     let command = Command::new(alloc, "run")
-        .about("Takes the control list, and then runs all processes in rounds, until nothing moves")
+        .about(
+            "Takes the control list, and then runs all processes in rounds, until\nnothing moves",
+        )
         .arg(script(alloc))?
         .arg(limit(alloc))?
         .arg(quiet(alloc))?;
@@ -196,7 +202,7 @@ fn spec<'a>(alloc: Global) -> Result<Command<'a>, AllocError>
 {
     Command::new(alloc, "spec")
         .about(
-            "Holds one match specification against a list, and prints why each clause fires or doesn't",
+            "Holds one match specification against a list, and prints why each\nclause fires or doesn't",
         )
         .arg(list(alloc))?
         .arg(event(alloc))?

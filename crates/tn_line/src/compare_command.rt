@@ -14,7 +14,7 @@ fn trace<'a>(alloc: Global) -> Arg<'a>
     Arg::new(alloc, "trace")
         .long("trace")
         .value_name("FILE")
-        .help("The file with the trace messages that a node printed, one on a line")
+        .help("The file with the trace messages that a node\nprinted, one on a line")
         .required(true)
         .action(ArgAction::Set)
 }
@@ -36,7 +36,7 @@ fn traces<'a>(alloc: Global) -> Result<Command<'a>, AllocError>
 {
     Command::new(alloc, "compare")
         .about(
-            "Says whether a trace that a node printed is one of a run of the script, and of which",
+            "Says whether a trace that a node printed is one of a run of the\nscript, and of which",
         )
         .arg(script(alloc))?
         .arg(trace(alloc))?

@@ -26,7 +26,9 @@ pub(crate) fn first_control<'a>(alloc: Global) -> Result<Arg<'a>, AllocError>
     Arg::new(alloc, "control")
         .long("control")
         .value_name("ORDER")
-        .help("When all commands of the control list are taken: first, before the processes move")
+        .help(
+            "When all commands of the control list are taken:\nfirst, before the processes move\n",
+        )
         .value_parser(ORDERS)
         .action(ArgAction::Set)
         .conflicts_with("after")
@@ -44,7 +46,7 @@ pub(crate) fn listing_order<'a>(alloc: Global) -> Arg<'a>
         .long("order")
         .value_name("ORDER")
         .help(
-            "Which messages of a session are in an order: those of each process, or all of them (total)",
+            "Which messages of a session are in an order: those\nof each process, or all of them (total)\n",
         )
         .value_parser(LISTING_ORDERS)
         .default_value("process")
@@ -58,7 +60,7 @@ pub(crate) fn one_session<'a>(alloc: Global) -> Arg<'a>
     Arg::new(alloc, "session")
         .long("session")
         .value_name("NAME")
-        .help("Explores what the session of this name shows, in quotes or not, and no other")
+        .help("Explores what the session of this name shows, in\nquotes or not, and no other")
         .allow_hyphen_values(true)
         .action(ArgAction::Set)
 }
@@ -71,7 +73,7 @@ fn shows<'a>(alloc: Global) -> Arg<'a>
         .long("shows")
         .value_name("PATTERN")
         .help(
-            "Says whether each listing has a trace message that matches, in place of the listings; it may be given again",
+            "Says whether each listing has a trace message that\nmatches, in place of the listings; it may be given\nagain",
         )
         .allow_hyphen_values(true)
         .action(ArgAction::Append)
@@ -85,7 +87,7 @@ fn always<'a>(alloc: Global) -> Arg<'a>
         .long("always")
         .value_name("PATTERN")
         .help(
-            "Each listing must have a trace message that matches, or else the exit status is 1; it may be given again",
+            "Each listing must have a trace message that\nmatches, or else the exit status is 1; it may be\ngiven again",
         )
         .allow_hyphen_values(true)
         .action(ArgAction::Append)
@@ -99,7 +101,7 @@ fn never<'a>(alloc: Global) -> Arg<'a>
         .long("never")
         .value_name("PATTERN")
         .help(
-            "No listing may have a trace message that matches, or else the exit status is 1; it may be given again",
+            "No listing may have a trace message that matches,\nor else the exit status is 1; it may be given again",
         )
         .allow_hyphen_values(true)
         .action(ArgAction::Append)
@@ -113,7 +115,7 @@ fn sometimes<'a>(alloc: Global) -> Arg<'a>
         .long("sometimes")
         .value_name("PATTERN")
         .help(
-            "Some listings must have a trace message that matches and some none, or else the exit status is 1; it may be given again",
+            "Some listings must have a trace message that\nmatches and some none, or else the exit status is\n1; it may be given again",
         )
         .allow_hyphen_values(true)
         .action(ArgAction::Append)
@@ -129,7 +131,7 @@ pub(crate) fn max_states<'a>(alloc: Global) -> Arg<'a>
         .long("max-states")
         .value_name("N")
         .help(
-            "How many states may be met of each session before its search ends, from 1 to 4294967295",
+            "How many states may be met of each session before\nits search ends,\nfrom 1 to 4294967295",
         )
         .value_parser(value_parser!(u32).range(1..=4294967295))
         .default_value("100000")
@@ -145,7 +147,7 @@ fn random<'a>(alloc: Global) -> Arg<'a>
         .long("random")
         .value_name("N")
         .help(
-            "Makes N random runs in place of a search through all schedules, from 1 to 4294967295",
+            "Makes N random runs in place of a search through\nall schedules, from 1 to 4294967295",
         )
         .value_parser(value_parser!(u32).range(1..=4294967295))
         .action(ArgAction::Set)
@@ -159,7 +161,7 @@ fn seed<'a>(alloc: Global) -> Result<Arg<'a>, AllocError>
     Arg::new(alloc, "seed")
         .long("seed")
         .value_name("S")
-        .help("The seed of the random runs, from 0 to 4294967295; 0 where it is absent")
+        .help("The seed of the random runs, from 0 to 4294967295;\n0 where it is absent")
         .value_parser(value_parser!(u32).range(0..=4294967295))
         .action(ArgAction::Set)
         .requires_arg("random")
@@ -183,7 +185,7 @@ fn schedules<'a>(alloc: Global) -> Result<Command<'a>, AllocError>
     ensures { IfOk result (IsCommand (codes "explore") SCHEDULES) }
 {
     Command::new(alloc, "explore")
-        .about("Runs the script by all schedules, and prints each listing that a session can have")
+        .about("Runs the script by all schedules, and prints each listing that a\nsession can have")
         .arg(script(alloc))?
         .arg(after(alloc))?
         .arg(first_control(alloc)?)?

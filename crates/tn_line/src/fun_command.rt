@@ -14,7 +14,7 @@ fn fun_event<'a>(alloc: Global) -> Arg<'a>
     Arg::new(alloc, "for")
         .long("for")
         .value_name("EVENT")
-        .help("What the specification is for: call, send or receive")
+        .help("What the specification is for: call, send or receive\n")
         .value_parser(EVENTS)
         .default_value("call")
         .action(ArgAction::Set)
@@ -26,7 +26,7 @@ fn pretty<'a>(alloc: Global) -> Arg<'a>
 {
     Arg::new(alloc, "pretty")
         .long("pretty")
-        .help("FUN is a match specification, and the fun that it is of is printed")
+        .help("FUN is a match specification, and the fun that it is of\nis printed")
         .action(ArgAction::SetTrue)
 }
 
@@ -36,7 +36,7 @@ fn fun_text<'a>(alloc: Global) -> Arg<'a>
 {
     Arg::new(alloc, "fun")
         .value_name("FUN")
-        .help("The fun, as dbg:fun2ms/1 takes it; standard input where it is absent or -")
+        .help("The fun, as dbg:fun2ms/1 takes it; standard input where it\nis absent or -")
         .allow_hyphen_values(true)
         .action(ArgAction::Set)
 }
@@ -47,7 +47,7 @@ pub(crate) fn fun<'a>(alloc: Global) -> Result<Command<'a>, AllocError>
 {
     Command::new(alloc, "fun")
         .about(
-            "Prints the match specification of a fun, as dbg:fun2ms/1 has it, or why it has none",
+            "Prints the match specification of a fun, as dbg:fun2ms/1 has it, or\nwhy it has none",
         )
         .arg(fun_event(alloc))?
         .arg(pretty(alloc))?

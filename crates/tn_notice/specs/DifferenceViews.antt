@@ -8,7 +8,7 @@ use Rattle.tn_notice.specs.declared.difference.AlignedSide.{AlignedSide}
 use Rattle.tn_notice.specs.declared.difference.AlignedSide.TheVariants as aligned
 use Rattle.tn_notice.specs.declared.difference.LineRange.{LineRange}
 use Rattle.tn_notice.specs.declared.difference.OutputDifference.{OutputDifference}
-use Rattle.tn_notice.specs.declared.difference.OutputDifference.TheVariants.{OneLine, TwoLines, LinesWithoutText, LastLineFeed, NoLine, EndOfOutput, MoreLines, MoreDifferences, AlignedOutput, AlignedRanges, AlignedLine}
+use Rattle.tn_notice.specs.declared.difference.OutputDifference.TheVariants.{OneLine, TwoLines, LinesWithoutText, LastLineFeed, NoLine, EndOfOutput, MoreLines, MoreDifferences, LineWithReturn, AlignedOutput, AlignedRanges, AlignedLine}
 
 abbrev pub side_seen : Side → texts.Side
 side_seen Expected = texts.expected_output
@@ -31,6 +31,7 @@ difference_seen_of (NoLine side) = texts.no_line (side_seen side)
 difference_seen_of (EndOfOutput side) = texts.end_of_output (side_seen side)
 difference_seen_of (MoreLines side) = texts.more_lines (side_seen side)
 difference_seen_of MoreDifferences = texts.more_differences
+difference_seen_of (LineWithReturn n) = texts.line_with_return n
 difference_seen_of (AlignedOutput side) = texts.aligned_output (side_seen side)
 difference_seen_of (AlignedRanges one other) = texts.aligned_ranges (range_seen one) (range_seen other)
 difference_seen_of (AlignedLine side text) = texts.aligned_line (aligned_side_seen side) (option_map (λ t. t.now) text)

@@ -14,9 +14,9 @@ abbrev pub entry_name : {A : Type 0} → Entry A → Name
 entry_name e = e.name
 
 abbrev pub moves_reason_seen : {A : Type 0} → MovesReason A → texts.MovesReason
-moves_reason_seen NoMover = texts.no_mover
-moves_reason_seen NoNumber = texts.no_number
-moves_reason_seen (NoCount name) = texts.no_count name.now
+moves_reason_seen (NoMover found) = texts.no_mover found.now
+moves_reason_seen (NoNumber found) = texts.no_number found.now
+moves_reason_seen (NoCount mover amount) = texts.no_count mover.now amount.now
 moves_reason_seen (NoStart name entries) = texts.no_start name.now (map entry_name entries.now)
 moves_reason_seen (ManyStarts name pids) = texts.many_starts name.now pids.now
 moves_reason_seen NoProgram = texts.no_program

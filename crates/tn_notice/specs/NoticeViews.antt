@@ -1,12 +1,13 @@
 -- What the code's notices stand for.
 -- Depends on what is said beside an output.
-use Rattle.std.specs.Prelude.{Option}
+use Rattle.std.specs.Prelude.{ℕ, List, Option}
 use Rattle.std.specs.Option.{option_map}
 use Rattle.def_notice.specs.NoticeTexts as texts
 use Rattle.tn_notice.specs.declared.notice.NodeCommand.{NodeCommand}
 use Rattle.tn_notice.specs.declared.notice.NodeCommand.TheVariants as commands
 use Rattle.tn_notice.specs.declared.notice.InputText.{InputText}
 use Rattle.tn_notice.specs.declared.notice.InputText.TheVariants as inputs
+use Rattle.tn_notice.specs.declared.notice.SessionsText.{SessionsText}
 use Rattle.tn_notice.specs.declared.notice.Notice.{Notice}
 use Rattle.tn_notice.specs.declared.notice.Notice.TheVariants as notices
 use Rattle.tn_notice.specs.FaultViews.{command_fault_seen}
@@ -24,6 +25,10 @@ input_text_seen inputs.Moves = texts.the_moves
 input_text_seen inputs.Output = texts.the_output
 input_text_seen inputs.Listing = texts.the_listing
 
+-- the names that are known
+abbrev pub known_names : SessionsText → Option (List ℕ)
+known_names s = option_map (λ names. names.now) s.names
+
 abbrev pub notice_seen : Notice → texts.Notice
 notice_seen (notices.Line line) = texts.given_line line.now
 notice_seen (notices.Fault f) = texts.of_fault (command_fault_seen f)
@@ -32,8 +37,8 @@ notice_seen (notices.NoFile path reason) = texts.no_file path.now reason.now
 notice_seen (notices.BothFromInput one other) = texts.both_from_input (input_text_seen one) (input_text_seen other)
 notice_seen (notices.NoValue text option reason) = texts.no_value text.now option.now reason.now
 notice_seen (notices.TestText text f) = texts.of_test_text (test_text_seen text) (test_fault_seen f)
-notice_seen (notices.NoSession name) = texts.no_session name.now
-notice_seen (notices.NoMove n) = texts.no_move n
+notice_seen (notices.NoSession name sessions) = texts.no_session name.now (option_map (λ s. s.now) sessions)
+notice_seen (notices.NoMove n moves) = texts.no_move n moves
 notice_seen notices.NoNodeMove = texts.no_node_move
 notice_seen notices.NoChosenMove = texts.no_chosen_move
 notice_seen notices.NoForms = texts.no_forms

@@ -7,6 +7,7 @@ ghost use Rattle.std.specs.Str.{chars};
 ghost use Rattle.def_notice.specs.DifferenceTexts.{SaysLine, SaysPair, lack_of_lines, lines_without_text, one_line};
 ghost use Rattle.def_notice.specs.DifferenceTexts.{output_difference_text, side_text, two_lines};
 ghost use Rattle.def_notice.specs.DifferenceTexts.{SaysAlignedLine, aligned_line, aligned_sign, range_text};
+ghost use Rattle.def_notice.specs.DifferenceTexts.{ends_in_return, return_difference};
 ghost use Rattle.tn_notice.specs.DifferenceViews.{aligned_side_seen, difference_seen_of, range_seen, side_seen};
 ghost use Rattle.tn_notice.specs.PrintableLines.{IsPrintable};
 
@@ -99,6 +100,10 @@ pub enum OutputDifference<'a> {
     MoreLines(Side),
     /// There may be more differences.
     MoreDifferences,
+    /// A line that is expected ends in a carriage return.
+    LineWithReturn {
+        number: u64,
+    },
     /// Which sign is of which output.
     AlignedOutput(Side),
     /// Which lines come next.
@@ -144,6 +149,10 @@ impl Display for OutputDifference<'_> {
             OutputDifference::EndOfOutput(side) => write!(f, "{side} the end of the output"),
             OutputDifference::MoreLines(side) => write!(f, "{side} more lines"),
             OutputDifference::MoreDifferences => f.write_str("more lines may differ"),
+            OutputDifference::LineWithReturn { number } => write!(
+                f,
+                "expected line {number} ends in a carriage return, which no line of an output has"
+            ),
             OutputDifference::AlignedOutput(Side::Expected) => f.write_str("--- expected"),
             OutputDifference::AlignedOutput(Side::Found) => f.write_str("+++ found"),
             OutputDifference::AlignedRanges { expected, found } => {
@@ -246,6 +255,29 @@ pub fn pair_difference<'a>(
         return None;
     }
     Some(difference_of_two(number, expected, found))
+}
+
+/// Whether the line ends in a carriage return.
+fn ends_in_return(line: &[u8]) -> bool
+    ensures { result ≡ ends_in_return line.now }
+{
+    let before = line.len().saturating_sub(1);
+    &line[before..] == b"\r".as_slice()
+}
+
+/// What is said of two lines of one number, where the expected one alone ends in a carriage return.
+pub fn return_difference(
+    number: u64,
+    expected: &[u8],
+    found: &[u8],
+) -> Option<OutputDifference<'static>>
+    ensures { option_map difference_seen_of result ≡ return_difference number expected.now found.now }
+{
+    if ends_in_return(expected) && !ends_in_return(found) {
+        Some(OutputDifference::LineWithReturn { number })
+    } else {
+        None
+    }
 }
 
 /// What is said of an output that has no line where the other has some: it ends there, or goes on with lines of both.

@@ -15,7 +15,7 @@ mod test_text;
 
 pub use difference::{
     AlignedSide, LineRange, OutputDifference, Side, aligned_difference, lack_of_lines,
-    line_difference, pair_difference,
+    line_difference, pair_difference, return_difference,
 };
 pub use fault::{CommandFault, SystemReason, notice_of_fault};
 pub use moves::{BadMoves, MovesReason, write_bad_moves};

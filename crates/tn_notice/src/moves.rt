@@ -1,9 +1,10 @@
 // The line of a text of moves that is refused.
-ghost use Rattle.std.specs.Prelude.{◌≡◌, ◌+◌, ◌++◌, codes, decimal, map, OnOk, OnErr};
+ghost use Rattle.std.specs.Prelude.{◌≡◌, ◌+◌, ◌++◌, codes, decimal, drop, map, if◌then◌else◌, OnOk, OnErr};
 ghost use Rattle.def_term.specs.Alive.{FIRST_PID};
 ghost use Rattle.def_term.specs.Text.{atom_text, pid_text};
 ghost use Rattle.def_notice.specs.MovesTexts.{bad_moves_text, moves_reason_text, pids_text, plain_bytes, plain_byte};
-ghost use Rattle.def_notice.specs.MovesTexts.{starts_text, one_start_text};
+ghost use Rattle.def_notice.specs.MovesTexts.{starts_text, one_start_text, instead_text, begins_with_star};
+ghost use Rattle.def_notice.specs.MovesTexts.{amount_text, has_mark, marks_hint_text, mover_hint_text};
 ghost use Rattle.tn_text.specs.Writes.{Grows};
 ghost use Rattle.tn_notice.specs.MovesViews.{bad_moves_seen, entry_name, moves_reason_seen};
 
@@ -14,13 +15,18 @@ use tn_text::{write_atom, write_decimal, write_pid};
 /// Why no directive stands at a piece of a text of moves.
 #[derive_where(Clone, Copy)]
 pub enum MovesReason<'a, A: Allocator> {
-    /// Nothing that may move stands there.
-    NoMover,
-    /// A digit is first, and what stands there is no number, or not how often it moves.
-    NoNumber,
-    /// How often the process with this name moves isn't what stands after it.
+    /// Nothing that may move stands there, but this.
+    NoMover {
+        found: &'a [u8],
+    },
+    /// A digit is first, and this is no number.
+    NoNumber {
+        found: &'a [u8],
+    },
+    /// How often this moves isn't what stands after it.
     NoCount {
-        name: &'a [u8],
+        mover: &'a [u8],
+        amount: &'a [u8],
     },
     /// No initial process starts in a function of this name; these are the initial processes.
     NoStart {
@@ -139,19 +145,116 @@ fn put_named<B: Allocator>(
     out.extend_from_slice(after)
 }
 
-/// Appends a name between two texts, and initial processes.
+/// Appends what stands there instead.
+fn put_instead<B: Allocator>(found: &[u8], out: &mut Vec<u8, B>) -> Result<(), AllocError>
+    ensures ok { OnOk result (out.new.items ≡ out.old.items ++ instead_text found.now) }
+    ensures grows { Grows out.old.items out.new.items }
+{
+    if found.is_empty() {
+        return out.extend_from_slice(b", found nothing");
+    }
+    put_named(b", found '", found, b"'", out)
+}
+
+/// Appends what is expected, and what stands there instead.
+fn put_expected<B: Allocator>(
+    words: &[u8],
+    found: &[u8],
+    out: &mut Vec<u8, B>,
+) -> Result<(), AllocError>
+    ensures ok { OnOk result (out.new.items ≡ out.old.items ++ (words.now ++ instead_text found.now)) }
+    ensures grows { Grows out.old.items out.new.items }
+{
+    out.extend_from_slice(words)?;
+    put_instead(found, out)
+}
+
+/// What may stand after who moves.
+fn amount_words(amount: &[u8]) -> &'static [u8]
+    ensures { result.now ≡ (if begins_with_star amount.now
+        then codes "* a number up to 65535 without a leading zero is expected" else codes "! a blank is expected") }
+{
+    match amount.first() {
+        Some(b'*') => b"* a number up to 65535 without a leading zero is expected",
+        _ => b"! a blank is expected",
+    }
+}
+
+/// The bytes after the first.
+fn after_first(bytes: &[u8]) -> &[u8]
+    ensures { result.now ≡ drop 1 bytes.now }
+{
+    if bytes.is_empty() { bytes } else { &bytes[1..] }
+}
+
+/// Appends what may stand after who moves, and what does.
+fn put_amount<B: Allocator>(amount: &[u8], out: &mut Vec<u8, B>) -> Result<(), AllocError>
+    ensures ok { OnOk result (out.new.items ≡ out.old.items ++ amount_text amount.now) }
+    ensures grows { Grows out.old.items out.new.items }
+{
+    out.extend_from_slice(amount_words(amount))?;
+    put_instead(after_first(amount), out)
+}
+
+/// Appends how often a process moves, which isn't what stands there.
+fn put_no_count<B: Allocator>(
+    before: &[u8],
+    mover: &[u8],
+    amount: &[u8],
+    out: &mut Vec<u8, B>,
+) -> Result<(), AllocError>
+    ensures ok { OnOk result (out.new.items ≡
+        out.old.items ++ (before.now ++ plain_bytes mover.now ++ amount_text amount.now)) }
+    ensures grows { Grows out.old.items out.new.items }
+{
+    out.extend_from_slice(before)?;
+    put_plain(mover, out)?;
+    put_amount(amount, out)
+}
+
+/// Whether one of the bytes is this one.
+fn has_mark(mark: u8, name: &[u8]) -> bool
+    ensures { result ≡ has_mark mark name.now }
+{
+    name.iter().any(|b| *b == mark)
+}
+
+/// How a name is written that has a comma, a colon or a slash.
+fn marks_hint(name: &[u8]) -> &'static [u8]
+    ensures { result.now ≡ marks_hint_text name.now }
+{
+    if has_mark(b',', name) {
+        return b": moves have blanks between them, and no commas";
+    }
+    if has_mark(b':', name) || has_mark(b'/', name) {
+        return b": a function is written by its name alone";
+    }
+    b""
+}
+
+/// How who moves is written, where this is a pid, begins with a quote or has such a mark.
+fn name_hint(name: &[u8]) -> &'static [u8]
+    ensures { result.now ≡ mover_hint_text name.now }
+{
+    match name.first() {
+        Some(b'<') => b": a process is written by the number in its pid, as 100 for <0.100.0>",
+        Some(b'\'') => b": a name has quotes only where its atom needs them",
+        _ => marks_hint(name),
+    }
+}
+
+/// Appends a name after a text, how it is written, and initial processes.
 fn put_no_start<A: Allocator, B: Allocator>(
     before: &[u8],
     name: &[u8],
-    after: &[u8],
     entries: &[Entry<A>],
     out: &mut Vec<u8, B>,
 ) -> Result<(), AllocError>
-    ensures ok { OnOk result (out.new.items ≡ out.old.items ++ (before.now ++ plain_bytes name.now ++ after.now
-        ++ starts_text (map entry_name entries.now))) }
+    ensures ok { OnOk result (out.new.items ≡ out.old.items ++ (before.now ++ plain_bytes name.now
+        ++ mover_hint_text name.now ++ starts_text (map entry_name entries.now))) }
     ensures grows { Grows out.old.items out.new.items }
 {
-    put_named(before, name, after, out)?;
+    put_named(before, name, name_hint(name), out)?;
     put_starts(entries, out)
 }
 
@@ -180,22 +283,18 @@ fn put_reason<A: Allocator, B: Allocator>(
     ensures grows { Grows out.old.items out.new.items }
 {
     match reason {
-        MovesReason::NoMover => {
-            out.extend_from_slice(b"a number, a name or `*` alone is expected")
+        MovesReason::NoMover { found } => {
+            put_expected(b"a number, a name or `*` alone is expected", found, out)
         }
-        MovesReason::NoNumber => out.extend_from_slice(
-            b"a number below 4294967296 without a leading zero is expected, and then nothing, `!` or `*` with a number up to 65535",
-        ),
-        MovesReason::NoCount { name } => put_named(
-            b"after ",
-            name,
-            b" nothing, `!` or `*` with a number up to 65535 is expected",
+        MovesReason::NoNumber { found } => put_expected(
+            b"a number below 4294967296 without a leading zero is expected",
+            found,
             out,
         ),
+        MovesReason::NoCount { mover, amount } => put_no_count(b"after ", mover, amount, out),
         MovesReason::NoStart { name, entries } => put_no_start(
-            b"no initial process starts in a function '",
+            b"no initial process starts in a function ",
             name,
-            b"'",
             entries,
             out,
         ),

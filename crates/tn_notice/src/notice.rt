@@ -1,7 +1,8 @@
 // What a command says beside its output.
 ghost use Rattle.std.specs.Prelude.{Some};
-ghost use Rattle.def_notice.specs.NoticeTexts.{input_text_name, node_command_text, notice_text};
-ghost use Rattle.tn_notice.specs.NoticeViews.{command_seen_of, input_text_seen, notice_seen};
+ghost use Rattle.def_notice.specs.NoticeTexts.{input_text_name, moves_text, node_command_text, notice_text};
+ghost use Rattle.def_notice.specs.NoticeTexts.{sessions_text};
+ghost use Rattle.tn_notice.specs.NoticeViews.{command_seen_of, input_text_seen, known_names, notice_seen};
 
 use crate::difference::OutputDifference;
 use crate::fault::CommandFault;
@@ -55,6 +56,47 @@ impl Display for InputText {
     }
 }
 
+/// Which sessions a script creates, where that is known.
+#[derive(Clone, Copy)]
+struct SessionsText<'a> {
+    names: Option<&'a str>,
+}
+
+impl Display for SessionsText<'_> {
+    ghost output = { λ s. Some (sessions_text (known_names s)) };
+
+    fn fmt<W: Write>(&self, f: &mut Formatter<W>) -> fmt::Result {
+        match self.names {
+            None => Ok(()),
+            Some(names) => {
+                if names.is_empty() {
+                    f.write_str(": it creates none")
+                } else {
+                    write!(f, ": it creates {names}")
+                }
+            }
+        }
+    }
+}
+
+/// How many moves a run has, where that is known.
+#[derive(Clone, Copy)]
+struct MovesText {
+    count: Option<u64>,
+}
+
+impl Display for MovesText {
+    ghost output = { λ m. Some (moves_text m.count) };
+
+    fn fmt<W: Write>(&self, f: &mut Formatter<W>) -> fmt::Result {
+        match self.count {
+            None => Ok(()),
+            Some(0) => f.write_str(": it has none"),
+            Some(count) => write!(f, ": its moves are 1 to {count}"),
+        }
+    }
+}
+
 /// What a command says beside its output.
 #[derive(Clone, Copy)]
 pub enum Notice<'a> {
@@ -88,13 +130,15 @@ pub enum Notice<'a> {
         text: TestText,
         fault: TestTextFault<'a>,
     },
-    /// The script creates no session of this name.
+    /// The script creates no session of this name; where it is known, it creates these.
     NoSession {
         name: &'a str,
+        sessions: Option<&'a str>,
     },
-    /// The run has no move with this number.
+    /// The run has no move with this number; where it is known, it has so many.
     NoMove {
         number: u64,
+        moves: Option<u64>,
     },
     /// A running node is known to do nothing otherwise.
     NoNodeMove,
@@ -137,7 +181,13 @@ impl Display for Notice<'_> {
             Notice::Line(line) => f.write_str(line),
             Notice::Fault(fault) => Display::fmt(fault, f),
             Notice::FaultBecause { fault, reason } => write!(f, "{fault}: {reason}"),
-            Notice::NoFile { path, reason } => write!(f, "error: {path}: {reason}"),
+            Notice::NoFile { path, reason } => {
+                if path.is_empty() {
+                    f.write_str("error: the name of a file is empty")
+                } else {
+                    write!(f, "error: {path}: {reason}")
+                }
+            }
             Notice::BothFromInput { one, other } => write!(
                 f,
                 "error: the {one} and the {other} can't both be standard input"
@@ -151,10 +201,16 @@ impl Display for Notice<'_> {
                 "error: invalid value '{text}' for '{option}': {reason}\n\nFor more information, try '--help'."
             ),
             Notice::TestText { text, fault } => write!(f, "{text}: {fault}"),
-            Notice::NoSession { name } => {
-                write!(f, "error: the script creates no session {name}")
-            }
-            Notice::NoMove { number } => write!(f, "error: the run has no move {number}"),
+            Notice::NoSession { name, sessions } => write!(
+                f,
+                "error: the script creates no session {name}{}",
+                SessionsText { names: *sessions }
+            ),
+            Notice::NoMove { number, moves } => write!(
+                f,
+                "error: the run has no move {number}{}",
+                MovesText { count: *moves }
+            ),
             Notice::NoNodeMove => {
                 f.write_str("note: a running node is known to do nothing otherwise there")
             }
