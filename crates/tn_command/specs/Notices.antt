@@ -21,6 +21,8 @@ use Rattle.tn_run.specs.declared.fault.LiveFault.{LiveFault}
 use Rattle.tn_run.specs.declared.fault.LiveFault.TheVariants as lives
 use Rattle.tn_explain.specs.declared.request.ExplainOutcome.{ExplainOutcome}
 use Rattle.tn_explain.specs.declared.request.ExplainOutcome.TheVariants as explained
+use Rattle.tn_state.specs.declared.request.StateOutcome.{StateOutcome}
+use Rattle.tn_state.specs.declared.request.StateOutcome.TheVariants as states
 use Rattle.tn_verdict.specs.declared.spec_test_input.SpecTestFault.{SpecTestFault}
 use Rattle.tn_verdict.specs.declared.spec_test_input.SpecTestFault.TheVariants as tests
 use Rattle.tn_command.specs.declared.output_fault.OutputFault.{OutputFault}
@@ -55,6 +57,13 @@ notice_of_account explained.NoSession name n = Some (no_session name)
 notice_of_account explained.NoMove name n = Some (no_move n)
 notice_of_account explained.NoDifference name n = Some no_node_move
 notice_of_account explained.NoMessage name n = Some no_chosen_move
+
+-- of a state that is asked for of the session of a name, after the move of a number
+abbrev pub notice_of_state : StateOutcome → (name : List ℕ) → (number : ℕ) → Option Notice
+notice_of_state states.State name n = None
+notice_of_state (states.Refused r) name n = None
+notice_of_state states.NoSession name n = Some (no_session name)
+notice_of_state states.NoMove name n = Some (no_move n)
 
 -- of a script with these bytes
 abbrev pub notice_of_forms : List ℕ → Option Notice
