@@ -53,7 +53,6 @@ fn lacks_session<A: Allocator>(program: &Program<A>, asked: Option<&str>) -> boo
 /// # Errors
 ///
 /// AllocError where memory was refused.
-#[tactic(auto, using(crate::proofs::Fronts::front_state))]
 pub fn state_of<A: Allocator + Copy>(
     alloc: A,
     program: &Program<A>,
