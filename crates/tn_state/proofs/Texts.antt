@@ -1,5 +1,5 @@
 -- Texts and terms that a loop makes, one piece after the other.
-use Rattle.std.proofs.Common.{◌≡◌, ◌∙◌, ℕ, zero, suc, ◌+◌, ◌-◌, ◌<◌, ◌≤◌, List, [], ◌∷◌, ◌++◌, length, drop, get_or, map, flat_map, refl, sym, ap, append-nil, append_assoc, arith}
+use Rattle.std.proofs.Common.{◌≡◌, ◌∙◌, ℕ, suc, ◌+◌, ◌-◌, ◌<◌, ◌≤◌, List, [], ◌∷◌, ◌++◌, length, drop, get_or, map, flat_map, sym, ap, append-nil, append_assoc, arith}
 use Rattle.std.proofs.lemmas.List.{drop_more, map-append}
 use Rattle.def_run.specs.Round.{pass_from}
 

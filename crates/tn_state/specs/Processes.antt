@@ -1,8 +1,6 @@
 -- What is written of processes, in the words of the definitions.
 use Rattle.std.specs.Prelude.{ℕ, Bool, if◌then◌else◌, List, [], ◌∷◌, ◌++◌, map}
 use Rattle.def_term.specs.Tree.{Tree, pid}
-use Rattle.def_script.specs.Program as program
-use Rattle.def_node.specs.Process as process
 use Rattle.def_state.specs.ProcessTexts.{initial_function, function_terms, step_term, binding_term}
 use Rattle.tn_script.specs.Views.{functions_of}
 use Rattle.tn_script.specs.declared.form.Function.{Function}

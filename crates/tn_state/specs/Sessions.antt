@@ -1,5 +1,5 @@
 -- The sessions of a run beside what they see.
-use Rattle.std.specs.Prelude.{◌≡◌, ℕ, suc, List, [], ◌∷◌, ◌++◌, filter, flat_map, if◌then◌else◌, ◌≤◌, length, take, Option, Result, OnOk}
+use Rattle.std.specs.Prelude.{◌≡◌, ℕ, List, [], ◌++◌, filter, flat_map, if◌then◌else◌, ◌≤◌, length, take, Option, Result, OnOk}
 use Rattle.std.specs.Option.{option_map}
 use Rattle.std.specs.declared.alloc.AllocError.{AllocError}
 use Rattle.def_term.specs.Alive.{Alive}
@@ -8,7 +8,6 @@ use Rattle.def_term.specs.Tree.{Tree}
 use Rattle.def_script.specs.Program as program
 use Rattle.def_script.specs.Exports.{exports_of}
 use Rattle.def_script.specs.Script.{creations}
-use Rattle.def_session.specs.State as definition
 use Rattle.def_run.specs.Run.{HistoryItem}
 use Rattle.def_run.specs.View.{View, is_own}
 use Rattle.def_run.specs.Listing.{state_of}

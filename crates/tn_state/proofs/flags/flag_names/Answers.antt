@@ -1,4 +1,4 @@
-use Rattle.std.proofs.Common.{◌∙◌, ◌++◌, [], codes, drop, map, sym, ap, append-nil}
+use Rattle.std.proofs.Common.{◌∙◌, ◌++◌, codes, drop, map, sym, ap, append-nil}
 use Rattle.def_spec.specs.Flags.{flags_by_name, send_flag, receive_flag, call_flag, procs_flag, silent_flag, arity_flag, set_on_spawn, set_on_first_spawn, set_on_link, set_on_first_link}
 use Rattle.def_state.specs.SessionTexts.{flags_among}
 use Rattle.tn_flags.specs.Views.{flags_of}

@@ -1,7 +1,6 @@
 use Rattle.std.proofs.Common.{◌∙◌, sym, ap}
 use Rattle.def_spec.specs.Flags.{flags_by_name}
 use Rattle.def_state.specs.SessionTexts.{flags_among, owner_flags_text}
-use Rattle.tn_flags.specs.Views.{flags_of}
 use Rattle.tn_session.specs.Looks.{look_seen}
 use Rattle.tn_term.specs.Views.{tree_of}
 use Rattle.tn_text.proofs.Growth.{written_as}

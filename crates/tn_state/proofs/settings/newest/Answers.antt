@@ -1,4 +1,4 @@
-use Rattle.std.proofs.Common.{◌∙◌, refl, sym}
+use Rattle.std.proofs.Common.{refl}
 use Rattle.std.specs.Option.{option_map}
 use Rattle.tn_state.specs.NewSettings.{new_setting_seen}
 use Rattle.tn_state.proofs.NewSettingLemmas.{newest_more, newest_all}

@@ -1,7 +1,6 @@
 use Rattle.std.proofs.Common.{◌∙◌, ◌∷◌, [], sym, ap}
 use Rattle.def_state.specs.Lines.{terms_line}
 use Rattle.def_state.specs.SessionTexts.{match_spec_term}
-use Rattle.def_term.specs.Tree.{atom}
 use Rattle.tn_term.specs.Views.{tree_of}
 use Rattle.tn_text.proofs.Growth.{written_as}
 use Rattle.tn_state.proofs.LineLemmas.{one_term}
