@@ -18,7 +18,7 @@ _tracenode() {
         *,=) before=${COMP_WORDS[COMP_CWORD - 1]} word= ;;
     esac
     if [ "$COMP_CWORD" -eq 1 ]; then
-        words='run replay round workers explain draw spec fun explore compare serve help -h --help -V --version'
+        words='run replay round workers explain state draw spec fun explore compare serve help -h --help -V --version'
         case ${COMP_WORDS[0]} in
             */*) words+=' --prove --install --release' ;;
         esac
@@ -27,7 +27,7 @@ _tracenode() {
         return
     else
         case $before in
-            --picks | --moves | --after | --limit | --max-states | --n | -n | --turns | --spread | --session | --move | --list | --me | --caller) return ;;
+            --picks | --moves | --after | --limit | --max-states | --n | -n | --turns | --spread | --session | --move | --at | --list | --me | --caller) return ;;
             --expect-session | --expect-line | --reject-line | --max-output) return ;;
             --shows | --always | --never | --sometimes | --message | --why-not) return ;;
             --for)
@@ -68,6 +68,10 @@ _tracenode() {
                 words='--picks --picks-file --moves --moves-file --round --limit --control --session --move --node'
                 words+=' --message --why-not --json --expect --expect-line --reject-line --strict --max-output -o --output -h --help'
                 ;;
+            state)
+                words='--picks --picks-file --moves --moves-file --round --limit --control --at --session'
+                words+=' --json --expect --expect-line --reject-line --strict --max-output -o --output -h --help'
+                ;;
             draw)
                 words='--picks --picks-file --moves --moves-file --round --limit --control --text'
                 words+=' --expect --expect-line --reject-line --strict --max-output -o --output -h --help'
@@ -79,13 +83,13 @@ _tracenode() {
             compare) words='--trace --prefix --after --control --order --session --json'
                 words+=' --max-states --max-output -o --output -h --help' ;;
             serve) words='-h --help' ;;
-            help) words='run replay round workers explain draw spec fun explore compare serve' ;;
+            help) words='run replay round workers explain state draw spec fun explore compare serve' ;;
         esac
     fi
     COMPREPLY=($(compgen -W "$words" -- "$word"))
     [ "$COMP_CWORD" -gt 1 ] || return
     case $command in
-        run | replay | round | workers | explain | draw | explore | compare) _tracenode_files "$word" ;;
+        run | replay | round | workers | explain | state | draw | explore | compare) _tracenode_files "$word" ;;
     esac
 }
 

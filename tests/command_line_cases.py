@@ -151,7 +151,7 @@ def command_lines():
         wants(f"version by {word}", run([word]), 0, f"tracenode {said_version()}\n".encode() + logic)
     for word in ("--help", "-h"):
         ran = run([word])
-        names = (b"run", b"replay", b"round", b"workers", b"explain", b"draw", b"spec", b"Examples:", b"Exit status:", b"A pick says")
+        names = (b"run", b"replay", b"round", b"workers", b"explain", b"state", b"draw", b"spec", b"Examples:", b"Exit status:", b"A pick says")
         good = ran.returncode == 0 and all(name in ran.stdout for name in names)
         check(f"help by {word}", good and not ran.stderr, ran)
     wrong = {

@@ -22,7 +22,7 @@ from harness import SECONDS, START, TOP, check, run
 # The options of ./tracenode, which are not the program's.
 STARTS = {"--prove", "--install", "--release"}
 
-COMMANDS = (("run",), ("replay",), ("round",), ("workers",), ("explain",), ("draw",), ("spec",), ("fun",), ("explore",), ("compare",), ("serve",))
+COMMANDS = (("run",), ("replay",), ("round",), ("workers",), ("explain",), ("state",), ("draw",), ("spec",), ("fun",), ("explore",), ("compare",), ("serve",))
 
 
 def documents():
@@ -165,6 +165,7 @@ def completions():
             (("./tracenode", "--release", "scr"), ["scripts"]),
             (("tracenode", "ru"), ["run"]),
             (("tracenode", "run", "--l"), ["--limit"]),
+            (("tracenode", "state", "--a"), ["--at"]),
             (("tracenode", "draw", "--r"), ["--reject-line", "--round"]),
             (("tracenode", "draw", "--m"), ["--max-output", "--moves", "--moves-file"]),
             (("tracenode", "round", "--m"), ["--max-output"]),

@@ -180,6 +180,7 @@ def schema():
         script = path.read_bytes()
         picks = run(["round", "--quiet"], script).stdout.decode().splitlines()[-1]
         lines += [(["round", "--quiet", "--json"], script), (["explain", "--picks", picks, "--json"], script)]
+        lines += [(["state", "--picks", picks, "--at", "0", "--json"], script)]
     for words, script in lines:
         ran = run(words, script)
         name = f"the schema of {' '.join(words)[:60]}"

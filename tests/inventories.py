@@ -198,7 +198,7 @@ def version():
 
 # The list that says what each command of the program takes, and the words that are no options.
 TAKEN = {
-    "run": "RUN", "replay": "REPLAY", "round": "ROUND", "workers": "WORKERS", "explain": "EXPLAIN", "draw": "DRAW",
+    "run": "RUN", "replay": "REPLAY", "round": "ROUND", "workers": "WORKERS", "explain": "EXPLAIN", "state": "STATE", "draw": "DRAW",
     "spec": "TRIAL", "fun": "FUN_ARGUMENTS", "explore": "EXPLORE_ARGUMENTS",
 }
 BARE_WORDS = {"script", "specification"}

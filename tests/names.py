@@ -43,7 +43,7 @@ HOMES = {
 }
 
 # What is done with a run: each takes any schedule.
-JOBS = {"Schedule", "Replay", "ExplainRequest", "DrawRequest", "ExploreRequest"}
+JOBS = {"Schedule", "Replay", "ExplainRequest", "StateRequest", "DrawRequest", "ExploreRequest"}
 
 # The forms in which a comment may have the words that the glossary has others for.
 FORMS = {

@@ -31,6 +31,7 @@ import mistake_cases
 import run_cases
 import serve_cases
 import specification_cases
+import state_cases
 import text_cases
 
 SUBJECTS = {
@@ -63,6 +64,7 @@ SUBJECTS = {
         explanation_cases.differences,
         explanation_cases.choices,
     ),
+    "state": (state_cases.states, state_cases.state_ends),
     "picture": (picture_cases.pictures, picture_cases.drawings, picture_cases.life_lines, picture_cases.columns),
     "mistake": (mistake_cases.mistakes,),
     "specification": (

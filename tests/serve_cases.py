@@ -97,6 +97,8 @@ def of_examples():
             ["round", "--json"],
             ["round", "--summary", "-q"],
             ["explain", "--round", "--json"],
+            ["state", "--round", "--at", "3"],
+            ["state", "--round", "--at", "0", "--json"],
             ["draw", "--round"],
             ["draw", "--round", "--text"],
             ["workers", "--n", "1"],
@@ -183,7 +185,7 @@ def answers():
     check("the status of serve", (ran.returncode, ran.stderr) == (0, b""), (ran.returncode, ran.stderr))
     check("one answer for each request", len(found) == len(asked), (len(found), len(asked)))
     commands = {words[0] for words, _ in asked if words}
-    check("all commands are asked", {"run", "replay", "round", "workers", "explain", "draw", "spec", "fun", "explore", "compare"} <= commands, commands)
+    check("all commands are asked", {"run", "replay", "round", "workers", "explain", "state", "draw", "spec", "fun", "explore", "compare"} <= commands, commands)
     statuses = {answer.get("status") for answer in found}
     check("all statuses are answered", statuses == {0, 1, 2, 3, 4}, statuses)
     for (words, text), answer in zip(asked, found):

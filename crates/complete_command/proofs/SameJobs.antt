@@ -10,6 +10,8 @@ use Rattle.tn_explain.specs.Accounts.{explain_by}
 use Rattle.tn_replay.specs.Notes.{replay_by}
 use Rattle.tn_explain.specs.declared.request.ExplainRequest.{ExplainRequest}
 use Rattle.tn_replay.specs.declared.replay.Replay.{Replay}
+use Rattle.tn_state.specs.Requests.{state_by}
+use Rattle.tn_state.specs.declared.request.StateRequest.{StateRequest}
 use Rattle.tn_picture.specs.Requests.{draw_by}
 use Rattle.tn_picture.specs.declared.request.DrawRequest.{DrawRequest}
 use Rattle.tn_command.specs.JobForms.{HasAtMost, job_within}
@@ -17,6 +19,7 @@ use Rattle.tn_command.specs.Status.{LISTED_STATUS, REFUSED_STATUS, status_of}
 use Rattle.complete_workers.specs.Runs.{AreOfOneText}
 use Rattle.complete_explain.proofs.OneExplanation.{explains_or_not, one_explanation}
 use Rattle.complete_explain.proofs.OneNote.{replays_are_one, replays_or_not}
+use Rattle.complete_state.proofs.OneState.{one_state, shows_or_not}
 use Rattle.complete_picture.proofs.OneDrawing.{draws_or_not, one_drawing}
 use Rattle.complete_command.specs.Jobs.{HasOneAnswer}
 
@@ -62,6 +65,12 @@ pub explanation_has_one : (request : ExplainRequest) → HasOneAnswer (explain_b
 explanation_has_one request = record {
   answer = λ bytes o u x y h i. one_explanation bytes request o u x y h i;
   reads = λ bytes o x h. explains_or_not bytes request o x h;
+}
+
+pub state_has_one : (request : StateRequest) → HasOneAnswer (state_by request)
+state_has_one request = record {
+  answer = λ bytes o u x y h i. one_state bytes request o u x y h i;
+  reads = λ bytes o x h. shows_or_not bytes request o x h;
 }
 
 pub drawing_has_one : (request : DrawRequest) → HasOneAnswer (draw_by request)

@@ -12,6 +12,7 @@ use tn_explain::{ExplainOutcome, ExplainRequest};
 use tn_picture::{DrawOutcome, DrawRequest};
 use tn_replay::{Replay, ReplayOutcome};
 use tn_run::{DirectJob, RunFault};
+use tn_state::{StateOutcome, StateRequest};
 use tn_text::Watched;
 
 /// `tn_command::perform_over` has one answer where the readers tell their bytes and the job has one, but for
@@ -100,6 +101,28 @@ pub fn explain<A: Allocator + Copy, R: Read, W: Write>(
 ) -> (
     JobEnd<ExplainOutcome, RunFault>,
     JobEnd<ExplainOutcome, RunFault>,
+)
+    requires reported { TellAlike R.remaining one.old other.old }
+    requires failed { has_failed one.old ≡ has_failed other.old }
+    requires outs { SeenAlike W.contents out.old same_out.old }
+    ensures outcome { Knows R.remaining one.old → AnswerAlike result.0 result.1 }
+    ensures status { Knows R.remaining one.old → HaveOneStatus result.0 result.1 }
+    ensures written { Knows R.remaining one.old → GainAlike W.contents out.old out.new same_out.new result.0 result.1 }
+{
+    perform_over(alloc, request, one, other, out, same_out)
+}
+
+/// `tn_command::perform_over` has one answer of a run whose state is asked for, as said of any job that has one.
+pub fn state<A: Allocator + Copy, R: Read, W: Write>(
+    alloc: A,
+    request: &StateRequest<'_>,
+    one: &mut Watched<R>,
+    other: &mut Watched<R>,
+    out: &mut Watched<W>,
+    same_out: &mut Watched<W>,
+) -> (
+    JobEnd<StateOutcome, RunFault>,
+    JobEnd<StateOutcome, RunFault>,
 )
     requires reported { TellAlike R.remaining one.old other.old }
     requires failed { has_failed one.old ≡ has_failed other.old }

@@ -99,10 +99,10 @@ pub data Notice : Type 0 where
   lacks_a_listing : (name : List ℕ) → Notice
 
 -- which sessions a script creates
-abbrev pub sessions_text : Option (List ℕ) → List ℕ
-sessions_text None = []
-sessions_text (Some []) = codes ": it creates none"
-sessions_text (Some (b ∷ bs)) = codes ": it creates " ++ (b ∷ bs)
+abbrev pub known_sessions_text : Option (List ℕ) → List ℕ
+known_sessions_text None = []
+known_sessions_text (Some []) = codes ": it creates none"
+known_sessions_text (Some (b ∷ bs)) = codes ": it creates " ++ (b ∷ bs)
 
 -- which moves a run has
 abbrev pub moves_text : Option ℕ → List ℕ
@@ -126,7 +126,7 @@ notice_text (both_from_input one other) =
 notice_text (no_value text option reason) =
     codes "error: invalid value '" ++ text ++ codes "' for '" ++ option ++ codes "': " ++ reason ++ codes "\n\nFor more information, try '--help'."
 notice_text (of_test_text text f) = test_text_name text ++ codes ": " ++ test_fault_text f
-notice_text (no_session name sessions) = codes "error: the script creates no session " ++ name ++ sessions_text sessions
+notice_text (no_session name sessions) = codes "error: the script creates no session " ++ name ++ known_sessions_text sessions
 notice_text (no_move n moves) = codes "error: the run has no move " ++ decimal n ++ moves_text moves
 notice_text no_node_move = codes "note: a running node is known to do nothing otherwise there"
 notice_text no_chosen_move = codes "error: the pattern selects no move of the run"

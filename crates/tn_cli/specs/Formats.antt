@@ -8,11 +8,12 @@ use Rattle.tn_formats.specs.declared.format.Format.{Format}
 use Rattle.tn_formats.specs.declared.format.Format.TheVariants.{Summary, OutputJson, AccountJson, TextJson}
 use Rattle.tn_cli.specs.Requests.{is_given}
 
--- the JSON of a command: of the account that `explain` writes, of the lines of `spec`, and of the output of any other
+-- the JSON of a command: of the account that `explain` writes, of the lines of `spec` and of `state`, and of the output of any other
 abbrev pub json_named : List ℕ → Format
 json_named name =
     if bytes_eq name (codes "explain") then AccountJson
     else if bytes_eq name (codes "spec") then TextJson
+    else if bytes_eq name (codes "state") then TextJson
     else OutputJson
 
 -- the summary where `--summary` is given, else the JSON where `--json` is

@@ -12,6 +12,7 @@ use Rattle.tn_answers.specs.declared.form.AnswerForm.{AnswerForm}
 use Rattle.tn_answers.specs.declared.form.AnswerForm.TheVariants as forms
 use Rattle.clap.specs.Words.{found_of, first_value, matched_of, raw_values, rows_of, subcommand_name_of, subcommand_rows_of}
 use Rattle.tn_explain.specs.declared.filter.Filter.{Filter}
+use Rattle.tn_state.specs.declared.request.StateQuestion.{StateQuestion}
 use Rattle.tn_exploration.specs.declared.request.RandomRuns.{RandomRuns}
 use Rattle.tn_command.specs.declared.source.Source.{Source}
 use Rattle.tn_command.specs.declared.source.Source.TheVariants.{Input, File}
@@ -34,7 +35,7 @@ use Rattle.tn_request.specs.declared.request.ExploreArgs.{ExploreArgs}
 use Rattle.tn_search.specs.declared.exploration.ListingOrder.{ListingOrder}
 use Rattle.tn_search.specs.declared.exploration.ListingOrder.TheVariants.{Total, ByProcess}
 use Rattle.tn_request.specs.declared.request.RunRequest.{RunRequest}
-use Rattle.tn_request.specs.declared.request.RunRequest.TheVariants.{Replay, Explain, Draw, Round}
+use Rattle.tn_request.specs.declared.request.RunRequest.TheVariants.{Replay, Explain, State, Draw, Round}
 use Rattle.tn_request.specs.declared.request.Request.{Request}
 use Rattle.tn_request.specs.declared.request.Request.TheVariants.{Run, Message, Workers, Spec, Fun, Explore}
 
@@ -171,6 +172,12 @@ abbrev pub IsMessageAsked : ArgMatches → Option MessageArgs → Type 0
 IsMessageAsked m None = LacksMessage m
 IsMessageAsked m (Some a) = IsMessageGiven m a
 
+-- the state after so many moves, and the session that `--session` names
+abbrev pub IsStateOf : ArgMatches → StateQuestion → Type 0
+IsStateOf m q =
+    IsTextOf (option_map session_named (argument m (codes "session"))) q.session
+    × IsGiven 0 4294967295 (argument m (codes "at")) q.move_number
+
 -- what `--for`, `--list`, `--me` and `--caller` give, and the specification or its file
 abbrev pub IsTrialOf : ArgMatches → SpecTestArgs → Type 0
 IsTrialOf m t =
@@ -298,6 +305,9 @@ AsksRun name m (Replay script picks quiet expectation) =
 AsksRun name m (Explain script run filter message expectation) =
     (name ≡ codes "explain") × IsSourceNamed (argument m (codes "script")) script × IsRunOf m run × IsAskedOf m filter
     × (message ≡ None) × LacksMessage m × IsExpectationOf m expectation
+AsksRun name m (State script run question expectation) =
+    (name ≡ codes "state") × IsSourceNamed (argument m (codes "script")) script × IsRunOf m run × IsStateOf m question
+    × IsExpectationOf m expectation
 AsksRun name m (Draw script run format expectation) =
     (name ≡ codes "draw") × IsSourceNamed (argument m (codes "script")) script × IsRunOf m run
     × (format ≡ picture_format_named (is_given m (codes "text"))) × IsExpectationOf m expectation
@@ -333,6 +343,8 @@ abbrev pub LacksNumber : List ℕ → ArgMatches → Type 0
 LacksNumber name m =
     ((name ≡ codes "explain") × LacksMove m)
     ⊎ ((name ≡ codes "explain") × LacksLimit m)
+    ⊎ ((name ≡ codes "state") × (¬ (IsBetween 0 4294967295 (argument m (codes "at")))))
+    ⊎ ((name ≡ codes "state") × LacksLimit m)
     ⊎ ((name ≡ codes "draw") × LacksLimit m)
     ⊎ ((name ≡ codes "run") × (¬ (IsBetween 1 65536 (argument m (codes "limit")))))
     ⊎ ((name ≡ codes "round") × (¬ (IsBetween 1 65536 (argument m (codes "limit")))))
@@ -354,7 +366,7 @@ pub record IsWithoutNumber (m : ArgMatches) : Type 0 where
 -- no subcommand was found, or one of another name
 abbrev pub NamesNoCommand : ArgMatches → Type 0
 NamesNoCommand m =
-    (subcommand_name_of m ≢ Some (codes "run")) × (subcommand_name_of m ≢ Some (codes "replay")) × (subcommand_name_of m ≢ Some (codes "explain")) × (subcommand_name_of m ≢ Some (codes "draw")) × (subcommand_name_of m ≢ Some (codes "round"))
+    (subcommand_name_of m ≢ Some (codes "run")) × (subcommand_name_of m ≢ Some (codes "replay")) × (subcommand_name_of m ≢ Some (codes "explain")) × (subcommand_name_of m ≢ Some (codes "state")) × (subcommand_name_of m ≢ Some (codes "draw")) × (subcommand_name_of m ≢ Some (codes "round"))
     × (subcommand_name_of m ≢ Some (codes "workers")) × (subcommand_name_of m ≢ Some (codes "spec")) × (subcommand_name_of m ≢ Some (codes "fun")) × (subcommand_name_of m ≢ Some (codes "explore")) × (subcommand_name_of m ≢ Some (codes "compare"))
 
 -- the subcommand that was found asks for it

@@ -14,6 +14,7 @@ fn json_of(name: &str) -> Format
     match name {
         "explain" => Format::AccountJson,
         "spec" => Format::TextJson,
+        "state" => Format::TextJson,
         _ => Format::OutputJson,
     }
 }

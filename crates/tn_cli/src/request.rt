@@ -23,6 +23,7 @@ use tn_request::{
 };
 use tn_search::ListingOrder;
 use tn_spec::Dialect;
+use tn_state::StateQuestion;
 
 /// A text that is no number for an option.
 fn not_number<'a>(option: &'static str, text: &'a str) -> BadValue<'a>
@@ -124,7 +125,7 @@ fn control_first(matches: &ArgMatches<'_>) -> bool
     matches!(matches.get_str("control"), Some("first"))
 }
 
-/// Which run is explained or drawn.
+/// Which run is explained or drawn, or has a state that is asked for.
 fn run_source<'a>(matches: &ArgMatches<'a>) -> Result<RunSource<'a>, BadValue<'a>>
     ensures run { IfOk result (IsRunOf matches.now) }
     ensures refused { IfErr result (λ e. LacksLimit matches.now) }
@@ -257,6 +258,24 @@ fn explain<'s, 'a: 's>(matches: &'s ArgMatches<'a>) -> Result<Request<'s>, BadVa
         run,
         filter,
         message,
+        expectation: expectation(matches),
+    }))
+}
+
+/// What `state` asks for.
+fn state<'s, 'a: 's>(matches: &'s ArgMatches<'a>) -> Result<Request<'s>, BadValue<'s>>
+    ensures asks { IfOk result (Asks (codes "state") matches.now) }
+    ensures refused { IfErr result (λ e. LacksNumber (codes "state") matches.now) }
+{
+    let move_number = number(matches, "at", "--at <N>", 0, 4294967295)?;
+    let run = run_source(matches)?;
+    Ok(Request::Run(RunRequest::State {
+        script: script(matches),
+        run,
+        question: StateQuestion {
+            session: matches.get_str("session").map(session_name),
+            move_number: u64::from(move_number),
+        },
         expectation: expectation(matches),
     }))
 }
@@ -487,6 +506,7 @@ pub fn request_of<'s, 'a: 's>(
         Some(("run", given)) => Ok(Some(run(given)?)),
         Some(("replay", given)) => Ok(Some(replay(given))),
         Some(("explain", given)) => Ok(Some(explain(given)?)),
+        Some(("state", given)) => Ok(Some(state(given)?)),
         Some(("draw", given)) => Ok(Some(draw(given)?)),
         Some(("round", given)) => Ok(Some(round(given)?)),
         Some(("workers", given)) => Ok(Some(workers(given)?)),

@@ -19,6 +19,9 @@ use Rattle.tn_replay.specs.declared.replay.ReplayOutcome.TheVariants as replayed
 use Rattle.tn_explain.specs.declared.request.ExplainRequest.{ExplainRequest}
 use Rattle.tn_explain.specs.declared.request.ExplainOutcome.{ExplainOutcome}
 use Rattle.tn_explain.specs.declared.request.ExplainOutcome.TheVariants as explained
+use Rattle.tn_state.specs.declared.request.StateRequest.{StateRequest}
+use Rattle.tn_state.specs.declared.request.StateOutcome.{StateOutcome}
+use Rattle.tn_state.specs.declared.request.StateOutcome.TheVariants as states
 use Rattle.tn_picture.specs.declared.request.DrawRequest.{DrawRequest}
 use Rattle.tn_picture.specs.declared.request.DrawOutcome.{DrawOutcome}
 use Rattle.tn_picture.specs.declared.request.DrawOutcome.TheVariants as drawn
@@ -67,6 +70,13 @@ IsExplainedFlaw q explained.NoSession bytes flawed = IsScheduleFlaw q.schedule b
 IsExplainedFlaw q explained.NoMove bytes flawed = IsScheduleFlaw q.schedule bytes flawed
 IsExplainedFlaw q explained.NoDifference bytes flawed = IsScheduleFlaw q.schedule bytes flawed
 IsExplainedFlaw q explained.NoMessage bytes flawed = IsScheduleFlaw q.schedule bytes flawed
+
+-- a run whose state is asked for
+abbrev pub IsStateFlaw : StateRequest → StateOutcome → List ℕ → Bool → Type 0
+IsStateFlaw q states.State bytes flawed = IsScheduleFlaw q.schedule bytes flawed
+IsStateFlaw q (states.Refused r) bytes flawed = IsNoFlaw flawed
+IsStateFlaw q states.NoSession bytes flawed = IsScheduleFlaw q.schedule bytes flawed
+IsStateFlaw q states.NoMove bytes flawed = IsScheduleFlaw q.schedule bytes flawed
 
 -- a run that is drawn
 abbrev pub IsDrawnFlaw : DrawRequest → DrawOutcome → List ℕ → Bool → Type 0

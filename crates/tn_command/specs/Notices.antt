@@ -24,6 +24,8 @@ use Rattle.tn_run.specs.declared.fault.LiveFault.{LiveFault}
 use Rattle.tn_run.specs.declared.fault.LiveFault.TheVariants as lives
 use Rattle.tn_explain.specs.declared.request.ExplainOutcome.{ExplainOutcome}
 use Rattle.tn_explain.specs.declared.request.ExplainOutcome.TheVariants as explained
+use Rattle.tn_state.specs.declared.request.StateOutcome.{StateOutcome}
+use Rattle.tn_state.specs.declared.request.StateOutcome.TheVariants as states
 use Rattle.tn_verdict.specs.declared.spec_test_input.SpecTestFault.{SpecTestFault}
 use Rattle.tn_verdict.specs.declared.spec_test_input.SpecTestFault.TheVariants as tests
 use Rattle.tn_command.specs.declared.moves_line.WrongPiece.{WrongPiece}
@@ -79,6 +81,13 @@ AreSessionsOf script (Some names) = (p : Program) × IsScript script p × (names
 abbrev pub AreMovesOfRun : (script : List ℕ) → Schedule → Option ℕ → Type 0
 AreMovesOfRun script schedule None = Unit {0}
 AreMovesOfRun script schedule (Some n) = (p : Program) × IsScript script p × OfPicks (schedule_seen schedule) p (λ picks. n ≡ length (moves p picks))
+
+-- of a state that is asked for of the session of a name, after the move of a number
+abbrev pub notice_of_state : StateOutcome → (name : List ℕ) → (number : ℕ) → Option Notice
+notice_of_state states.State name n = None
+notice_of_state (states.Refused r) name n = None
+notice_of_state states.NoSession name n = Some (no_session name)
+notice_of_state states.NoMove name n = Some (no_move n)
 
 -- of a script with these bytes
 abbrev pub notice_of_forms : List ℕ → Option Notice

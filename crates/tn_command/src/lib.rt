@@ -1,9 +1,9 @@
 //! What a command of the command line does once its words are read, and its exit status.
 //!
-//! Depends on tn_run, tn_replay, tn_explain, tn_picture, tn_exploration, tn_formats and tn_notice. Promises that each
-//! job is done as its crate says, in its format and within its bound, and that the status is its answer's, or 1 for an
-//! unmet expectation, a refuted demand or a flaw under `--strict`, or 4 for an exploration that isn't complete; and
-//! which notice there is of a fault, of an outcome and of refused moves.
+//! Depends on tn_run, tn_replay, tn_explain, tn_state, tn_picture, tn_exploration, tn_formats and tn_notice. Promises
+//! that each job is done as its crate says, in its format and within its bound, and that the status is its answer's, or
+//! 1 for an unmet expectation, a refuted demand or a flaw under `--strict`, or 4 for an exploration that isn't
+//! complete; and which notice there is of a fault, of an outcome and of refused moves.
 #![tactic(auto)]
 
 mod bad_value;
@@ -29,6 +29,7 @@ mod spec_lists;
 mod spec_notes;
 mod spec_test;
 mod start;
+mod state;
 mod status;
 mod stderr;
 mod tee;

@@ -109,6 +109,12 @@ EXPLAIN =
     codes "script" ∷ codes "picks" ∷ codes "picks-file" ∷ codes "moves" ∷ codes "moves-file" ∷ codes "round" ∷ codes "limit" ∷ codes "control"
     ∷ codes "session" ∷ codes "move" ∷ codes "node" ∷ codes "message" ∷ codes "why-not" ∷ codes "json" ∷ EXPECTATION
 
+-- the arguments of `state`
+abbrev pub STATE : List (List ℕ)
+STATE =
+    codes "script" ∷ codes "picks" ∷ codes "picks-file" ∷ codes "moves" ∷ codes "moves-file" ∷ codes "round" ∷ codes "limit" ∷ codes "control"
+    ∷ codes "at" ∷ codes "session" ∷ codes "json" ∷ EXPECTATION
+
 -- the arguments of `draw`
 abbrev pub DRAW : List (List ℕ)
 DRAW =
@@ -150,4 +156,4 @@ COMPARE_ARGUMENTS = TRACES ++ codes "order" ∷ codes "session" ∷ codes "max-s
 
 -- the commands of the program
 abbrev pub COMMAND_NAMES : List (List ℕ)
-COMMAND_NAMES = codes "run" ∷ codes "replay" ∷ codes "round" ∷ codes "workers" ∷ codes "explain" ∷ codes "draw" ∷ codes "spec" ∷ codes "fun" ∷ codes "explore" ∷ codes "compare" ∷ codes "serve" ∷ []
+COMMAND_NAMES = codes "run" ∷ codes "replay" ∷ codes "round" ∷ codes "workers" ∷ codes "explain" ∷ codes "state" ∷ codes "draw" ∷ codes "spec" ∷ codes "fun" ∷ codes "explore" ∷ codes "compare" ∷ codes "serve" ∷ []

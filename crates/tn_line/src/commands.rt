@@ -16,6 +16,7 @@ use crate::compare_command::compare;
 use crate::explore_command::explore;
 use crate::fun_command::fun;
 use crate::serve_command::serve;
+use crate::state_command::state;
 use clap::{ArgGroup, Command};
 use std::alloc::{AllocError, Global};
 
@@ -78,7 +79,10 @@ fn with_formats<'a>(alloc: Global, command: Command<'a>) -> Result<Command<'a>, 
 
 /// The command with `[--expect FILE] [--expect-line TEXT] [--reject-line TEXT] [--strict] [--max-output BYTES]
 /// [--output FILE]` more, which say what its output must be, and its commands, and which file the output goes to.
-fn with_expectation<'a>(alloc: Global, command: Command<'a>) -> Result<Command<'a>, AllocError>
+pub(crate) fn with_expectation<'a>(
+    alloc: Global,
+    command: Command<'a>,
+) -> Result<Command<'a>, AllocError>
     ensures { IfOk result (IsWithExpectation command.entry) }
 {
     command
@@ -103,7 +107,7 @@ fn replay<'a>(alloc: Global) -> Result<Command<'a>, AllocError>
 }
 
 /// A command that runs the script by picks or moves, or by rounds with `--round [--limit N] [--control first]`.
-fn by_picks_or_rounds<'a>(
+pub(crate) fn by_picks_or_rounds<'a>(
     alloc: Global,
     name: &'a str,
     about: &'a str,
@@ -248,6 +252,7 @@ pub fn command<'a>(alloc: Global) -> Result<Command<'a>, AllocError>
     let command = with_subcommand(command, round(alloc))?;
     let command = with_subcommand(command, workers(alloc))?;
     let command = with_subcommand(command, explain(alloc))?;
+    let command = with_subcommand(command, state(alloc))?;
     let command = with_subcommand(command, draw(alloc))?;
     let command = with_subcommand(command, spec(alloc))?;
     let command = with_subcommand(command, fun(alloc))?;

@@ -11,5 +11,6 @@ mod compare_command;
 mod explore_command;
 mod fun_command;
 mod serve_command;
+mod state_command;
 
 pub use commands::command;

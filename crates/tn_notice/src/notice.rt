@@ -1,7 +1,7 @@
 // What a command says beside its output.
 ghost use Rattle.std.specs.Prelude.{Some};
 ghost use Rattle.def_notice.specs.NoticeTexts.{input_text_name, moves_text, node_command_text, notice_text};
-ghost use Rattle.def_notice.specs.NoticeTexts.{sessions_text};
+ghost use Rattle.def_notice.specs.NoticeTexts.{known_sessions_text};
 ghost use Rattle.tn_notice.specs.NoticeViews.{command_seen_of, input_text_seen, known_names, notice_seen};
 
 use crate::difference::OutputDifference;
@@ -63,7 +63,7 @@ struct SessionsText<'a> {
 }
 
 impl Display for SessionsText<'_> {
-    ghost output = { λ s. Some (sessions_text (known_names s)) };
+    ghost output = { λ s. Some (known_sessions_text (known_names s)) };
 
     fn fmt<W: Write>(&self, f: &mut Formatter<W>) -> fmt::Result {
         match self.names {

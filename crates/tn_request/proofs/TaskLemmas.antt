@@ -10,6 +10,10 @@ use Rattle.tn_explain.specs.Accounts.{IsExplanation, explain_by}
 use Rattle.tn_explain.specs.declared.request.ExplainRequest.{ExplainRequest}
 use Rattle.tn_explain.specs.declared.request.ExplainOutcome.{ExplainOutcome}
 use Rattle.tn_explain.specs.declared.request.ExplainOutcome.TheVariants as explained
+use Rattle.tn_state.specs.Requests.{IsShown, state_by}
+use Rattle.tn_state.specs.declared.request.StateRequest.{StateRequest}
+use Rattle.tn_state.specs.declared.request.StateOutcome.{StateOutcome}
+use Rattle.tn_state.specs.declared.request.StateOutcome.TheVariants as states
 use Rattle.tn_picture.specs.Requests.{IsDrawn, draw_by}
 use Rattle.tn_picture.specs.declared.request.DrawRequest.{DrawRequest}
 use Rattle.tn_picture.specs.declared.request.DrawOutcome.{DrawOutcome}
@@ -20,7 +24,7 @@ use Rattle.tn_command.specs.JobForms.{job_in, job_within}
 use Rattle.tn_command.specs.declared.output_fault.OutputFault.{OutputFault}
 use Rattle.tn_command.specs.declared.output_form.OutputForm.{OutputForm}
 use Rattle.tn_request.specs.TaskFlaws.{IsTaskFlaw, flaw_asked}
-use Rattle.tn_request.specs.Tasks.{IsDoneBy, Task, account_of_request, drawing_of_request, format_asked, job_asked, listing_of_replay, task_asked, task_job}
+use Rattle.tn_request.specs.Tasks.{IsDoneBy, Task, account_of_request, drawing_of_request, format_asked, job_asked, listing_of_replay, state_of_request, task_asked, task_job}
 use Rattle.tn_request.specs.declared.job.RequestOutcome.{RequestOutcome}
 use Rattle.tn_request.specs.declared.job.RequestOutcome.TheVariants as outcomes
 use Rattle.tn_request.specs.declared.request.RunRequest.{RunRequest}
@@ -37,6 +41,12 @@ account_done q p explained.NoMove output h = record { picks = h.picks; given = h
 account_done q p explained.NoDifference output h = record { picks = h.picks; given = h.given; so = h.answer }
 account_done q p explained.NoMessage output h = record { picks = h.picks; given = h.given; so = h.answer }
 
+state_done : (q : StateRequest) (p : Program) (o : StateOutcome) (output : List ℕ) → IsShown q p o output → IsDoneBy (state_of_request q) p (outcomes.State o) output
+state_done q p states.State output h = record { picks = h.picks; given = h.given; so = h.answer }
+state_done q p (states.Refused r) output h = h
+state_done q p states.NoSession output h = record { picks = h.picks; given = h.given; so = h.answer }
+state_done q p states.NoMove output h = record { picks = h.picks; given = h.given; so = h.answer }
+
 drawing_done : (q : DrawRequest) (p : Program) (o : DrawOutcome) (output : List ℕ) → IsDrawn q p o output → IsDoneBy (drawing_of_request q) p (outcomes.Draw o) output
 drawing_done q p drawn.Drawn output h = record { picks = h.picks; given = h.given; so = h.drawing }
 drawing_done q p (drawn.Refused r) output h = h
@@ -51,6 +61,10 @@ lists_more most q p h = record { outcome = outcomes.Replay h.outcome; output = h
 pub explains_so : (q : ExplainRequest) (p : Program) (o : ExplainOutcome) (output : List ℕ) → IsProgramAnswer (explain_by q) p o output
     → IsProgramAnswer (task_job (account_of_request q)) p (outcomes.Explain o) output
 explains_so q p o output h = record { given = account_done q p o output h.given; accepted = h.accepted; outcome_has = tt }
+
+pub shows_so : (q : StateRequest) (p : Program) (o : StateOutcome) (output : List ℕ) → IsProgramAnswer (state_by q) p o output
+    → IsProgramAnswer (task_job (state_of_request q)) p (outcomes.State o) output
+shows_so q p o output h = record { given = state_done q p o output h.given; accepted = h.accepted; outcome_has = tt }
 
 pub draws_so : (q : DrawRequest) (p : Program) (o : DrawOutcome) (output : List ℕ) → IsProgramAnswer (draw_by q) p o output
     → IsProgramAnswer (task_job (drawing_of_request q)) p (outcomes.Draw o) output

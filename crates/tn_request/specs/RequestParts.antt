@@ -10,7 +10,7 @@ use Rattle.tn_request.specs.declared.request.PicksSource.TheVariants as picks
 use Rattle.tn_request.specs.declared.request.RunSource.{RunSource}
 use Rattle.tn_request.specs.declared.request.RunSource.TheVariants.{ByPicks, ByRound}
 use Rattle.tn_request.specs.declared.request.RunRequest.{RunRequest}
-use Rattle.tn_request.specs.declared.request.RunRequest.TheVariants.{Replay, Explain, Draw, Round}
+use Rattle.tn_request.specs.declared.request.RunRequest.TheVariants.{Replay, Explain, State, Draw, Round}
 use Rattle.tn_request.specs.declared.request.Request.{Request}
 use Rattle.tn_request.specs.declared.request.Request.TheVariants.{Run, Message, Workers, Spec, Fun, Explore}
 use Rattle.tn_request.specs.declared.request.TextSource.{TextSource}
@@ -20,6 +20,7 @@ use Rattle.tn_request.specs.declared.request.TextSource.TheVariants.{Picks, Move
 abbrev pub run_expectation : RunRequest → ExpectationArgs
 run_expectation (Replay script picks quiet e) = e
 run_expectation (Explain script run filter message e) = e
+run_expectation (State script run question e) = e
 run_expectation (Draw script run format e) = e
 run_expectation (Round script limit control_first quiet e) = e
 
@@ -27,6 +28,7 @@ run_expectation (Round script limit control_first quiet e) = e
 abbrev pub run_script : RunRequest → Source
 run_script (Replay script picks quiet e) = script
 run_script (Explain script run filter message e) = script
+run_script (State script run question e) = script
 run_script (Draw script run format e) = script
 run_script (Round script limit control_first quiet e) = script
 
@@ -63,7 +65,7 @@ picks_source_asked (picks.In source) = Some (Picks source)
 picks_source_asked (picks.Moves words) = None
 picks_source_asked (picks.MovesIn source) = Some (Moves source)
 
--- that of a run that is explained or drawn
+-- that of a run that is explained or drawn, or has a state that is asked for
 abbrev pub run_source_asked : RunSource → Option TextSource
 run_source_asked (ByPicks source) = picks_source_asked source
 run_source_asked (ByRound limit control_first) = None
@@ -72,6 +74,7 @@ run_source_asked (ByRound limit control_first) = None
 abbrev pub run_text_source : RunRequest → Option TextSource
 run_text_source (Replay script source quiet e) = picks_source_asked source
 run_text_source (Explain script run filter message e) = run_source_asked run
+run_text_source (State script run question e) = run_source_asked run
 run_text_source (Draw script run format e) = run_source_asked run
 run_text_source (Round script limit control_first quiet e) = None
 

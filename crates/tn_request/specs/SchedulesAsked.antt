@@ -7,7 +7,7 @@ use Rattle.tn_request.specs.declared.request.PicksSource.TheVariants.{Text, In, 
 use Rattle.tn_request.specs.declared.request.RunSource.{RunSource}
 use Rattle.tn_request.specs.declared.request.RunSource.TheVariants.{ByPicks, ByRound}
 use Rattle.tn_request.specs.declared.request.RunRequest.{RunRequest}
-use Rattle.tn_request.specs.declared.request.RunRequest.TheVariants.{Replay, Explain, Draw, Round}
+use Rattle.tn_request.specs.declared.request.RunRequest.TheVariants.{Replay, Explain, State, Draw, Round}
 
 -- the picks or the moves of the words, or of the text that was read
 abbrev pub picks_asked : PicksSource → (read : List ℕ) → ScheduleView
@@ -21,7 +21,7 @@ abbrev pub round_asked : (limit : ℕ) → (control_first : Bool) → ScheduleVi
 round_asked limit true = by_control_first limit
 round_asked limit false = by_round limit
 
--- the run that is explained or drawn
+-- the run that is explained or drawn, or has a state that is asked for
 abbrev pub run_asked : RunSource → (read : List ℕ) → ScheduleView
 run_asked (ByPicks picks) read = picks_asked picks read
 run_asked (ByRound limit control_first) read = round_asked limit control_first
@@ -30,5 +30,6 @@ run_asked (ByRound limit control_first) read = round_asked limit control_first
 abbrev pub schedule_asked : RunRequest → (read : List ℕ) → ScheduleView
 schedule_asked (Replay script picks quiet e) read = picks_asked picks read
 schedule_asked (Explain script run filter message e) read = run_asked run read
+schedule_asked (State script run question e) read = run_asked run read
 schedule_asked (Draw script run format e) read = run_asked run read
 schedule_asked (Round script limit control_first quiet e) read = round_asked limit control_first

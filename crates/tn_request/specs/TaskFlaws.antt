@@ -7,10 +7,12 @@ use Rattle.tn_replay.specs.declared.replay.ReplayOutcome.{ReplayOutcome}
 use Rattle.tn_replay.specs.declared.replay.ReplayOutcome.TheVariants as replayed
 use Rattle.tn_explain.specs.declared.request.ExplainOutcome.{ExplainOutcome}
 use Rattle.tn_explain.specs.declared.request.ExplainOutcome.TheVariants as explained
+use Rattle.tn_state.specs.declared.request.StateOutcome.{StateOutcome}
+use Rattle.tn_state.specs.declared.request.StateOutcome.TheVariants as states
 use Rattle.tn_picture.specs.declared.request.DrawOutcome.{DrawOutcome}
 use Rattle.tn_picture.specs.declared.request.DrawOutcome.TheVariants as drawn
 use Rattle.tn_command.specs.Flaws.{IsNoFlaw, has_flaw}
-use Rattle.tn_request.specs.Tasks.{Task, listing_task, account_task, drawing_task, task_asked}
+use Rattle.tn_request.specs.Tasks.{Task, listing_task, account_task, state_task, drawing_task, task_asked}
 use Rattle.tn_request.specs.declared.job.RequestOutcome.{RequestOutcome}
 use Rattle.tn_request.specs.declared.job.RequestOutcome.TheVariants as outcomes
 use Rattle.tn_request.specs.declared.request.RunRequest.{RunRequest}
@@ -34,6 +36,13 @@ IsAccountFlaw a explained.NoMove bytes flawed = IsFlawOf a bytes flawed
 IsAccountFlaw a explained.NoDifference bytes flawed = IsFlawOf a bytes flawed
 IsAccountFlaw a explained.NoMessage bytes flawed = IsFlawOf a bytes flawed
 
+-- of a run whose state is asked for
+abbrev pub IsStateTaskFlaw : ScheduleView → StateOutcome → List ℕ → Bool → Type 0
+IsStateTaskFlaw a states.State bytes flawed = IsFlawOf a bytes flawed
+IsStateTaskFlaw a (states.Refused r) bytes flawed = IsNoFlaw flawed
+IsStateTaskFlaw a states.NoSession bytes flawed = IsFlawOf a bytes flawed
+IsStateTaskFlaw a states.NoMove bytes flawed = IsFlawOf a bytes flawed
+
 -- of a run that is drawn
 abbrev pub IsDrawingFlaw : ScheduleView → DrawOutcome → List ℕ → Bool → Type 0
 IsDrawingFlaw a drawn.Drawn bytes flawed = IsFlawOf a bytes flawed
@@ -42,14 +51,13 @@ IsDrawingFlaw a (drawn.Refused r) bytes flawed = IsNoFlaw flawed
 -- of each task; an outcome of another task is no flaw
 abbrev pub IsTaskFlaw : Task → RequestOutcome → List ℕ → Bool → Type 0
 IsTaskFlaw (listing_task a has_notes quiet) (outcomes.Replay outcome) bytes flawed = IsListingFlaw a outcome bytes flawed
-IsTaskFlaw (listing_task a has_notes quiet) (outcomes.Explain outcome) bytes flawed = IsNoFlaw flawed
-IsTaskFlaw (listing_task a has_notes quiet) (outcomes.Draw outcome) bytes flawed = IsNoFlaw flawed
-IsTaskFlaw (account_task a q) (outcomes.Replay outcome) bytes flawed = IsNoFlaw flawed
+IsTaskFlaw (listing_task a has_notes quiet) outcome bytes flawed = IsNoFlaw flawed
 IsTaskFlaw (account_task a q) (outcomes.Explain outcome) bytes flawed = IsAccountFlaw a outcome bytes flawed
-IsTaskFlaw (account_task a q) (outcomes.Draw outcome) bytes flawed = IsNoFlaw flawed
-IsTaskFlaw (drawing_task a format) (outcomes.Replay outcome) bytes flawed = IsNoFlaw flawed
-IsTaskFlaw (drawing_task a format) (outcomes.Explain outcome) bytes flawed = IsNoFlaw flawed
+IsTaskFlaw (account_task a q) outcome bytes flawed = IsNoFlaw flawed
+IsTaskFlaw (state_task a q) (outcomes.State outcome) bytes flawed = IsStateTaskFlaw a outcome bytes flawed
+IsTaskFlaw (state_task a q) outcome bytes flawed = IsNoFlaw flawed
 IsTaskFlaw (drawing_task a format) (outcomes.Draw outcome) bytes flawed = IsDrawingFlaw a outcome bytes flawed
+IsTaskFlaw (drawing_task a format) outcome bytes flawed = IsNoFlaw flawed
 
 -- of the task of a request, with the text that was read of its picks or its moves
 abbrev pub flaw_asked : RunRequest → (read : List ℕ) → RequestOutcome → List ℕ → Bool → Type 0

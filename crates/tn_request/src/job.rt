@@ -3,7 +3,7 @@ ghost use Rattle.std.specs.Prelude.{◌≡◌, ◌||◌, not, IfErr, IfOk};
 ghost use Rattle.tn_moves.specs.Schedules.{IsSpelledBy, schedule_seen};
 ghost use Rattle.tn_program.specs.Views.{program_of};
 ghost use Rattle.tn_run.specs.Jobs.{IsAnswerWithin, IsOfNoEnd, IsProgramAnswer};
-ghost use Rattle.tn_request.specs.Tasks.{account_of_request, drawing_of_request, listing_of_replay};
+ghost use Rattle.tn_request.specs.Tasks.{account_of_request, drawing_of_request, listing_of_replay, state_of_request};
 ghost use Rattle.tn_request.specs.Tasks.{account_task, format_asked, listing_task, task_asked, task_job, task_seen};
 ghost use Rattle.tn_explain.specs.Filters.{account_question_seen};
 
@@ -21,12 +21,14 @@ use tn_picture::{DrawOutcome, DrawRequest};
 use tn_program::Program;
 use tn_replay::{Replay, ReplayOutcome};
 use tn_run::{Denial, DirectJob, Job, Refusal, RunFault};
+use tn_state::{StateOutcome, StateRequest};
 
 /// The job that a request for a run by a schedule asks for.
 #[derive(Clone, Copy)]
 pub enum RequestJob<'a> {
     Replay(Replay<'a>),
     Explain(ExplainRequest<'a>),
+    State(StateRequest<'a>),
     Draw(DrawRequest<'a>),
 }
 
@@ -35,6 +37,7 @@ pub enum RequestJob<'a> {
 pub enum RequestOutcome {
     Replay(ReplayOutcome),
     Explain(ExplainOutcome),
+    State(StateOutcome),
     Draw(DrawOutcome),
 }
 
@@ -81,6 +84,9 @@ pub fn job_of<'a>(request: &RunRequest<'a>, read: &'a [u8]) -> RequestJob<'a>
             message,
             ..
         } => explain_job(schedule, filter, message),
+        RunRequest::State { question, .. } => {
+            RequestJob::State(StateRequest { schedule, question })
+        }
         RunRequest::Draw { format, .. } => RequestJob::Draw(DrawRequest { schedule, format }),
         RunRequest::Round {
             quiet,
@@ -151,6 +157,22 @@ fn explain_answer<A: Allocator + Copy>(
     Ok((RequestOutcome::Explain(outcome), output))
 }
 
+/// What is written of a program whose state is asked for.
+fn state_answer<A: Allocator + Copy>(
+    alloc: A,
+    job: &StateRequest<'_>,
+    picks: &[u32],
+    program: &Program<A>,
+) -> Result<(RequestOutcome, Vec<u8, A>), RunFault>
+    requires { IsSpelledBy (schedule_seen job.now.schedule) picks.now }
+    ensures given { IfOk result (λ r. IsProgramAnswer (task_job (state_of_request job.now))
+        (program_of program.now) r.0 r.1.items) }
+    ensures fault { IfErr result (IsOfNoEnd (task_job (state_of_request job.now))) }
+{
+    let (outcome, output) = job.answer(alloc, picks, program)?;
+    Ok((RequestOutcome::State(outcome), output))
+}
+
 /// What is written of a program whose run is drawn.
 fn draw_answer<A: Allocator + Copy>(
     alloc: A,
@@ -183,6 +205,7 @@ impl<A: Allocator + Copy> Job<A> for RequestJob<'_> {
         match self {
             RequestJob::Replay(job) => job.schedule.picks_of_text(alloc),
             RequestJob::Explain(job) => job.schedule.picks_of_text(alloc),
+            RequestJob::State(job) => job.schedule.picks_of_text(alloc),
             RequestJob::Draw(job) => job.schedule.picks_of_text(alloc),
         }
     }
@@ -193,6 +216,7 @@ impl<A: Allocator + Copy> Job<A> for RequestJob<'_> {
             RequestJob::Explain(job) => {
                 RequestOutcome::Explain(job.refusal_outcome(alloc, refusal))
             }
+            RequestJob::State(job) => RequestOutcome::State(job.refusal_outcome(alloc, refusal)),
             RequestJob::Draw(job) => RequestOutcome::Draw(job.refusal_outcome(alloc, refusal)),
         }
     }
@@ -206,6 +230,7 @@ impl<A: Allocator + Copy> Job<A> for RequestJob<'_> {
                     ExplainOutcome::Account | ExplainOutcome::NoDifference
                 )
             }
+            RequestOutcome::State(outcome) => matches!(outcome, StateOutcome::State),
             RequestOutcome::Draw(outcome) => matches!(outcome, DrawOutcome::Drawn),
         }
     }
@@ -225,6 +250,7 @@ impl<A: Allocator + Copy> DirectJob<A> for RequestJob<'_> {
         match self {
             RequestJob::Replay(job) => replay_answer(alloc, job, picks, program),
             RequestJob::Explain(job) => explain_answer(alloc, job, picks, program),
+            RequestJob::State(job) => state_answer(alloc, job, picks, program),
             RequestJob::Draw(job) => draw_answer(alloc, job, picks, program),
         }
     }
@@ -269,6 +295,9 @@ impl Command for RequestJob<'_> {
             (RequestJob::Explain(job), RequestOutcome::Explain(outcome)) => {
                 job.tell_outcome(rt, outcome, script);
             }
+            (RequestJob::State(job), RequestOutcome::State(outcome)) => {
+                job.tell_outcome(rt, outcome, script);
+            }
             (RequestJob::Draw(job), RequestOutcome::Draw(outcome)) => {
                 job.tell_outcome(rt, outcome, script);
             }
@@ -287,6 +316,9 @@ impl Command for RequestJob<'_> {
                 job.is_flawed(alloc, outcome, script)
             }
             (RequestJob::Explain(job), RequestOutcome::Explain(outcome)) => {
+                job.is_flawed(alloc, outcome, script)
+            }
+            (RequestJob::State(job), RequestOutcome::State(outcome)) => {
                 job.is_flawed(alloc, outcome, script)
             }
             (RequestJob::Draw(job), RequestOutcome::Draw(outcome)) => {

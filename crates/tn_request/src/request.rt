@@ -9,6 +9,7 @@ use tn_message_choice::MessageChoice;
 use tn_picture::PictureFormat;
 use tn_search::ListingOrder;
 use tn_spec::Dialect;
+use tn_state::StateQuestion;
 
 /// Where the text of picks or of moves is.
 #[derive(Clone, Copy)]
@@ -23,7 +24,7 @@ pub enum PicksSource<'a> {
     MovesIn(Source<'a>),
 }
 
-/// Which run is explained or drawn.
+/// Which run is explained or drawn, or has a state that is asked for.
 #[derive(Clone, Copy)]
 pub enum RunSource<'a> {
     /// The run by picks.
@@ -156,6 +157,13 @@ pub enum RunRequest<'a> {
         message: Option<MessageChoice<'a>>,
         expectation: ExpectationArgs<'a>,
     },
+    /// The state of a run after a move.
+    State {
+        script: Source<'a>,
+        run: RunSource<'a>,
+        question: StateQuestion<'a>,
+        expectation: ExpectationArgs<'a>,
+    },
     /// A picture of a run.
     Draw {
         script: Source<'a>,
@@ -201,7 +209,7 @@ pub struct WorkersRequest<'a> {
 /// What the command line asks for.
 #[derive(Clone, Copy)]
 pub enum Request<'a> {
-    /// A run by a schedule: its output, an explanation or a picture of it.
+    /// A run by a schedule: its output, an explanation, a state or a picture of it.
     Run(RunRequest<'a>),
     /// An explanation of the moves that are chosen by a message.
     Message(MessageRequest<'a>),
@@ -278,6 +286,7 @@ impl<'a> RunRequest<'a> {
         match *self {
             RunRequest::Replay { expectation, .. } => expectation,
             RunRequest::Explain { expectation, .. } => expectation,
+            RunRequest::State { expectation, .. } => expectation,
             RunRequest::Draw { expectation, .. } => expectation,
             RunRequest::Round { expectation, .. } => expectation,
         }
@@ -290,6 +299,7 @@ impl<'a> RunRequest<'a> {
         match *self {
             RunRequest::Replay { script, .. } => script,
             RunRequest::Explain { script, .. } => script,
+            RunRequest::State { script, .. } => script,
             RunRequest::Draw { script, .. } => script,
             RunRequest::Round { script, .. } => script,
         }
@@ -302,6 +312,7 @@ impl<'a> RunRequest<'a> {
         match *self {
             RunRequest::Replay { picks, .. } => picks.text_source(),
             RunRequest::Explain { run, .. } => run.text_source(),
+            RunRequest::State { run, .. } => run.text_source(),
             RunRequest::Draw { run, .. } => run.text_source(),
             RunRequest::Round { .. } => None,
         }

@@ -29,7 +29,7 @@ fn round_schedule(limit: u32, control_first: bool) -> Schedule<'static>
     }
 }
 
-/// The picks of a run that is explained or drawn.
+/// The picks of a run that is explained or drawn, or has a state that is asked for.
 fn run_schedule<'a>(run: &RunSource<'a>, read: &'a [u8]) -> Schedule<'a>
     ensures { schedule_seen result ≡ run_asked run.now read.now }
 {
@@ -49,6 +49,7 @@ pub fn schedule_of<'a>(request: &RunRequest<'a>, read: &'a [u8]) -> Schedule<'a>
     match request {
         RunRequest::Replay { picks, .. } => picks_schedule(picks, read),
         RunRequest::Explain { run, .. } => run_schedule(run, read),
+        RunRequest::State { run, .. } => run_schedule(run, read),
         RunRequest::Draw { run, .. } => run_schedule(run, read),
         RunRequest::Round {
             limit,

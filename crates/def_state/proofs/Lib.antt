@@ -1,0 +1,5 @@
+pub mod Journals
+mod Flags
+mod Settings
+mod Terms
+mod StateRows

@@ -1,0 +1,8 @@
+mod Texts
+mod FlagTexts
+mod LineLemmas
+mod OwnCommands
+mod ProcessLemmas
+mod NewSettingLemmas
+mod SessionLemmas
+mod Fronts

@@ -1,0 +1,14 @@
+use Rattle.std.proofs.Common.{◌∙◌, ◌++◌, sym, ap}
+use Rattle.def_state.specs.ProcessTexts.{process_text}
+use Rattle.tn_node.specs.Worlds.{slot_of}
+use Rattle.tn_script.specs.Views.{functions_of}
+use Rattle.tn_text.proofs.Growth.{on_done}
+use Rattle.tn_state.proofs.process.put_process.Goals as goal
+
+pub returns-in-None : goal.returns-in-None
+returns-in-None g c =
+    on_done c.put_exited_process.result (λ text. text ∙ ap (λ s. c.args.out.now.items ++ process_text (functions_of c.args.functions.now) c.args.pid (slot_of s)) (sym c.in-None.is)) c.put_exited_process.ensures
+
+pub returns-in-Some : goal.returns-in-Some
+returns-in-Some g c =
+    on_done c.put_living_process.result (λ text. text ∙ ap (λ s. c.args.out.now.items ++ process_text (functions_of c.args.functions.now) c.args.pid (slot_of s)) (sym c.in-Some.is)) c.put_living_process.ensures
