@@ -1,6 +1,6 @@
 -- Picks by which a process moves alone, and when one goes first.
-use Rattle.std.proofs.Common.{◌≡◌, ◌∙◌, ◌<◌, ◌+◌, ◌||◌, ◌&&◌, ◌==◌, inl, inr, ℕ, zero, suc, Bool, true, false, not, cond, List, [], ◌∷◌, ◌++◌, length, map, Option, Some, None, refl, sym, ap, subst, arith}
-use Rattle.std.specs.Prelude.{IfSome, IsTrue, nat_lt}
+use Rattle.std.proofs.Common.{◌≡◌, ◌∙◌, ◌<◌, ◌+◌, ◌||◌, ◌==◌, inl, inr, ℕ, zero, suc, Bool, true, false, not, cond, List, [], ◌∷◌, length, map, Option, Some, refl, sym, ap, subst, arith}
+use Rattle.std.specs.Prelude.{IfSome, nat_lt}
 use Rattle.std.specs.Option.{IsSomeAnd}
 use Rattle.std.proofs.lemmas.Bool.Decides.{nat_tests}
 use Rattle.def_term.specs.Names.{Name}
@@ -11,7 +11,7 @@ use Rattle.def_node.specs.Node.{World, Move, moved, idle, NodeState, gives_comma
 use Rattle.def_run.specs.Run.{RunState, moves, run_state_of, start, pick_step, pick_step_with, takes_command}
 use Rattle.def_run.specs.Laws.{state_at}
 use Rattle.def_run.proofs.Replay.{room_spent}
-use Rattle.def_explore.specs.Rests.{KeptMessages, by_process}
+use Rattle.def_explore.specs.Rests.{by_process}
 use Rattle.def_explore.specs.Alike.{is_pick_among, AreIndependent}
 use Rattle.def_independence.specs.Alone.{have_link, have_unlink, shows_nothing, shows_nothing_after, shows_own_steps, shows_own_steps_after}
 use Rattle.def_independence.specs.OwnEffects.{none_is_to_one}

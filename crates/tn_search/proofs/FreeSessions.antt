@@ -9,7 +9,6 @@ use Rattle.def_spec.specs.Flags.{receive_flag}
 use Rattle.def_script.specs.Exports.{exports_of}
 use Rattle.def_script.specs.Program.{Program}
 use Rattle.def_script.specs.Script.{creations}
-use Rattle.def_session.specs.State as definition
 use Rattle.def_session.specs.State.{flags_at}
 use Rattle.def_run.specs.Run.{events}
 use Rattle.def_run.specs.View.{view}

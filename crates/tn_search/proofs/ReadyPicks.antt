@@ -1,5 +1,5 @@
 -- A pick that moves a node may move it, so that no pick that moves is left out.
-use Rattle.std.proofs.Common.{◌≡◌, ◌∙◌, ◌<◌, ◌≤◌, ◌-◌, ◌+◌, ◌⊎◌, inl, inr, ℕ, zero, suc, Bool, true, false, not, cond, if◌then◌else◌, List, [], ◌∷◌, ◌++◌, length, take, get_or, map, Option, Some, None, refl, sym, ap, subst, append-nil, arith}
+use Rattle.std.proofs.Common.{◌≡◌, ◌∙◌, ◌<◌, ◌≤◌, ◌-◌, ◌+◌, ◌⊎◌, inl, inr, ℕ, zero, suc, Bool, true, false, not, cond, if◌then◌else◌, List, [], ◌∷◌, ◌++◌, length, take, get_or, Option, Some, None, refl, sym, ap, subst, append-nil, arith}
 use Rattle.std.specs.Prelude.{nat_le, nat_lt, slice_get}
 use Rattle.std.specs.List.{Contains, filter}
 use Rattle.std.proofs.lemmas.Bool.Decides.{nat_tests}
@@ -8,7 +8,7 @@ use Rattle.std.proofs.lemmas.List.Elements.{filter_more, Contains-append_cases, 
 use Rattle.def_term.specs.Alive.{FIRST_PID}
 use Rattle.def_script.specs.Program.{Function, Program}
 use Rattle.def_node.specs.Process.{Process, Act, waits, continues, sends, links_to, unlinks_from, spawns, exits, act}
-use Rattle.def_node.specs.Node.{World, Move, idle, put_at, after_act, stepped_at, next_of, next_pid, NodeState, PickResult, gives_command, gives_nothing, of_move, next}
+use Rattle.def_node.specs.Node.{World, Move, idle, put_at, after_act, stepped_at, next_of, next_pid, NodeState, gives_command, gives_nothing, of_move, next}
 use Rattle.def_outlook.specs.Outlook.{is_waiting}
 use Rattle.def_outlook.specs.Laws.{is_wait}
 use Rattle.def_outlook.proofs.Outlooks.{waiting_is_of_the_act}

@@ -1,5 +1,5 @@
 -- What a search that leaves out picks says, and what one says that leaves out none.
-use Rattle.std.proofs.Common.{◌≡◌, ℕ, Bool, true, false, List, Option, Some, None, refl, sym, subst}
+use Rattle.std.proofs.Common.{◌≡◌, Bool, true, false, Option, Some, None, subst}
 use Rattle.std.specs.Prelude.{IfSome, IfNone}
 use Rattle.def_script.specs.Program.{Program}
 use Rattle.def_explore.specs.Rests.{KeptMessages}

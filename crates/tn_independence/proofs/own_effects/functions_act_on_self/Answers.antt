@@ -1,4 +1,4 @@
-use Rattle.std.proofs.Common.{◌≡◌, ◌∙◌, ◌≤◌, length, reverse, sym, ap, arith}
+use Rattle.std.proofs.Common.{◌≡◌, ◌∙◌, ◌≤◌, length, reverse, sym, arith}
 use Rattle.std.proofs.lemmas.List.{length-reverse}
 use Rattle.tn_session.specs.Looks.{look_seen}
 use Rattle.tn_independence.proofs.OwnSettings.{one_acts, they_fail, they_act}

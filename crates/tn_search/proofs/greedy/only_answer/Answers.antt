@@ -1,4 +1,4 @@
-use Rattle.std.proofs.Common.{◌≡◌, ◌∙◌, ◌∷◌, [], ap, length, arith}
+use Rattle.std.proofs.Common.{◌∙◌, ◌∷◌, [], ap, length, arith}
 use Rattle.tn_explore.specs.Searches.{answer_entries}
 use Rattle.tn_messages.specs.MessageViews.{kept_seen}
 use Rattle.tn_search.proofs.OnlyEntries.{only_inserted}

@@ -1,4 +1,4 @@
-use Rattle.std.proofs.Common.{◌≡◌, ◌∙◌, ◌<◌, ◌||◌, false, length, ap, sym, arith}
+use Rattle.std.proofs.Common.{◌≡◌, ◌∙◌, ◌<◌, ◌||◌, length, ap, sym, arith}
 use Rattle.def_independence.specs.Alone.{have_link, have_unlink}
 use Rattle.tn_program.specs.Views.{program_of}
 use Rattle.tn_search.specs.States.{state_journal}

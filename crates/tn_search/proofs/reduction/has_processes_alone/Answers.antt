@@ -1,4 +1,4 @@
-use Rattle.std.proofs.Common.{◌≡◌, ◌∙◌, Bool, true, false, not, length, sym, ap}
+use Rattle.std.proofs.Common.{◌≡◌, ◌∙◌, true, false, length, sym, ap}
 use Rattle.tn_program.specs.Views.{program_of}
 use Rattle.tn_node.specs.Nodes.{taken_in}
 use Rattle.tn_search.specs.ReadyPicks.{has_command_left}

@@ -1,4 +1,4 @@
-use Rattle.std.proofs.Common.{◌≡◌, ◌∙◌, ◌∷◌, [], ◌++◌, sym, subst, ap}
+use Rattle.std.proofs.Common.{◌∙◌, ◌∷◌, [], ◌++◌, subst, ap}
 use Rattle.tn_explore.specs.SearchStates.{StepGives}
 use Rattle.tn_trace.specs.declared.recorder.Recorder.{Recorder}
 use Rattle.tn_search.specs.States.{IsStateFor, state_journal}
