@@ -112,9 +112,9 @@ def state_ends():
         by_picks = run(["state", "--picks", journal, "--at", at], numbers)
         check(f"the state after {at} moves of a round", by_round.returncode == 0 and by_round.stdout == by_picks.stdout, by_round)
     moves = ["state", "--moves", "0! go!"]
-    wants("a state past the last move", run([*moves, "--at", "12"], numbers), 2, b"", b"error: the run has no move 12\n")
+    wants("a state past the last move", run([*moves, "--at", "12"], numbers), 2, b"", b"error: the run has no move 12: its moves are 1 to 11\n")
     unknown = run([*moves, "--at", "12", "--session", "s9"], numbers)
-    wants("a state of an unknown session", unknown, 2, b"", b"error: the script creates no session s9\n")
+    wants("a state of an unknown session", unknown, 2, b"", b"error: the script creates no session s9: it creates s\n")
     wants("a state of no script", run(["state", "--picks", "", "--at", "0"], b"{"), 2, b"refused 2 token at 1\n")
     wants("a state by bad picks", run(["state", "--picks", "0 00", "--at", "0"], SEND_HI), 2, b"refused 20 bad picks\n")
     for words in (["--at", "0"], ["--picks", ""], ["--picks", "", "--at", "x"], ["--picks", "", "--at", "-1"], ["--picks", "", "--at"]):

@@ -83,11 +83,11 @@ AreMovesOfRun script schedule None = Unit {0}
 AreMovesOfRun script schedule (Some n) = (p : Program) × IsScript script p × OfPicks (schedule_seen schedule) p (λ picks. n ≡ length (moves p picks))
 
 -- of a state that is asked for of the session of a name, after the move of a number
-abbrev pub notice_of_state : StateOutcome → (name : List ℕ) → (number : ℕ) → Option Notice
-notice_of_state states.State name n = None
-notice_of_state (states.Refused r) name n = None
-notice_of_state states.NoSession name n = Some (no_session name)
-notice_of_state states.NoMove name n = Some (no_move n)
+abbrev pub notice_of_state : StateOutcome → (name : List ℕ) → (number : ℕ) → RunOutline → Option Notice
+notice_of_state states.State name n known = None
+notice_of_state (states.Refused r) name n known = None
+notice_of_state states.NoSession name n known = Some (no_session name (option_map (λ s. s.now) known.sessions))
+notice_of_state states.NoMove name n known = Some (no_move n known.moves)
 
 -- of a script with these bytes
 abbrev pub notice_of_forms : List ℕ → Option Notice

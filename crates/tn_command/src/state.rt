@@ -6,6 +6,7 @@ ghost use Rattle.tn_command.specs.Notices.{notice_of_state};
 use crate::command::{Command, has_schedule_flaw, schedule_text};
 use crate::moves_line::tell_run_refusal;
 use crate::remarks::print_notices;
+use crate::run_outline::{RunOutline, move_count, names_text, sessions_of};
 use crate::stderr::{NamedText, run_fault};
 use std::alloc::Global;
 use tn_notice::{CommandFault, Notice, escape_controls, plain_name};
@@ -13,15 +14,48 @@ use tn_run::{Denial, RunFault};
 use tn_state::{StateOutcome, StateRequest};
 
 /// What is said of the outcome of a state that is asked for of the session of a name, after the move of a number.
-fn state_notice(outcome: StateOutcome, name: &str, number: u64) -> Option<Notice<'_>>
-    ensures { notices_seen result ≡ notice_of_state outcome name.now number }
+fn state_notice<'a>(
+    outcome: StateOutcome,
+    name: &'a str,
+    number: u64,
+    known: RunOutline<'a>,
+) -> Option<Notice<'a>>
+    ensures { notices_seen result ≡ notice_of_state outcome name.now number known.entry }
 {
+    let RunOutline { sessions, moves } = known;
     match outcome {
         StateOutcome::State => None,
         StateOutcome::Refused(_) => None,
-        StateOutcome::NoSession => Some(Notice::NoSession { name }),
-        StateOutcome::NoMove => Some(Notice::NoMove { number }),
+        StateOutcome::NoSession => Some(Notice::NoSession { name, sessions }),
+        StateOutcome::NoMove => Some(Notice::NoMove { number, moves }),
     }
+}
+
+/// Says why there is no state.
+fn tell_no_state<R: Eprint + AllocGlobal>(
+    rt: &R,
+    request: &StateRequest<'_>,
+    outcome: StateOutcome,
+    script: NamedText<'_>,
+) {
+    let plain = escape_controls(rt.alloc(), request.question.session.unwrap_or(""));
+    let name = plain_name(&plain, "of this name");
+    let sessions = match outcome {
+        StateOutcome::NoSession => sessions_of(rt.alloc(), script.bytes),
+        _ => None,
+    };
+    let moves = match outcome {
+        StateOutcome::NoMove => move_count(rt.alloc(), script.bytes, &request.schedule),
+        _ => None,
+    };
+    let known = RunOutline {
+        sessions: names_text(&sessions),
+        moves,
+    };
+    print_notices(
+        rt,
+        state_notice(outcome, name, request.question.move_number, known),
+    );
 }
 
 impl Command for StateRequest<'_> {
@@ -47,11 +81,7 @@ impl Command for StateRequest<'_> {
             StateOutcome::Refused(refusal) => {
                 tell_run_refusal(rt, refusal, script, schedule_text(&self.schedule));
             }
-            _ => {
-                let plain = escape_controls(rt.alloc(), self.question.session.unwrap_or(""));
-                let name = plain_name(&plain, "of this name");
-                print_notices(rt, state_notice(outcome, name, self.question.move_number));
-            }
+            _ => tell_no_state(rt, self, outcome, script),
         }
     }
 
