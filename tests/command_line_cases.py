@@ -46,6 +46,7 @@ exit 7
             ["round", "--quiet"],
             ["round", "--expect-line", "x"],
             ["round", "--max-output", "9"],
+            ["round", "--max-memory", "9"],
             ["round", "--control", "first"],
             ["replay", "--moves", "0! *"],
             ["explain", "--round", "--limit", "5"],
@@ -239,6 +240,12 @@ def usage_errors():
         (["round", "--limit", "x"], f"error: invalid value 'x' for '--limit <N>': {digits}\n"),
         (["round", "--limit", ""], f"error: invalid value '' for '--limit <N>': {digits}\n"),
         (["round", "--max-output", "10k"], f"error: invalid value '10k' for '--max-output <BYTES>': {digits}\n"),
+        (["round", "--max-memory", "1G"], f"error: invalid value '1G' for '--max-memory <BYTES>': {digits}\n"),
+        (["round", "--max-memory", "0"], "error: invalid value '0' for '--max-memory <BYTES>': 0 is not in 1..=18446744073709551615\n"),
+        (
+            ["round", "--max-memory", "18446744073709551616"],
+            "error: invalid value '18446744073709551616' for '--max-memory <BYTES>': the greatest number is 18446744073709551615\n",
+        ),
         (["explain", "--round", "--move", "2-4"], f"error: invalid value '2-4' for '--move <N>': {digits}\n"),
         (["explain", "--round", "--quiet"], "error: unexpected argument '--quiet' found\n\nUsage: "),
         (

@@ -25,7 +25,7 @@ use tn_search::ListingOrder;
 use tn_spec::Dialect;
 
 /// A text that is no number for an option.
-fn not_number<'a>(option: &'static str, text: &'a str) -> BadValue<'a>
+pub(crate) fn not_number<'a>(option: &'static str, text: &'a str) -> BadValue<'a>
     ensures { (result.option ≡ option.entry) × (result.text ≡ text.entry) }
 {
     BadValue {

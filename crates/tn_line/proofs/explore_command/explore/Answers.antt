@@ -18,4 +18,6 @@ returns c =
     c.in_ok-arg-7.ensures in
     let eighth = one_more name _ (codes "max-output") c.in_ok-arg-7.field-0 c.in_ok-arg-8.field-0 c.max_output.result seventh c.max_output.ensures.named.0
     c.in_ok-arg-8.ensures in
-    one_more_so name _ (codes "output") c.in_ok-arg-8.field-0 c.output.result c.arg-9.result eighth c.output.ensures.0 c.arg-9.ensures
+    let ninth = one_more name _ (codes "max-memory") c.in_ok-arg-8.field-0 c.in_ok-arg-9.field-0 c.max_memory.result eighth c.max_memory.ensures.named.0
+    c.in_ok-arg-9.ensures in
+    one_more_so name _ (codes "output") c.in_ok-arg-9.field-0 c.output.result c.arg-10.result ninth c.output.ensures.0 c.arg-10.ensures
