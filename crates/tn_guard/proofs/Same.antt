@@ -12,6 +12,10 @@ decided false t u h = go (same t u) refl
     go true e = h.1 (same-is t u e)
     go false e = refl
 
+-- in either order
+pub same-swap : (t u : Tree) → same t u ≡ same u t
+same-swap t u = decided (same t u) u t ((λ yes. sym (same-is t u yes)), (λ e. subst (λ x. same t x ≡ true) (sym e) (same-self t)))
+
 -- of lists, by what it decides of their elements
 pub decided-lists : (b : Bool) (ts us : Trees) → IsTrue b ↔ (ts ≡ us) → b ≡ same (list ts) (list us)
 decided-lists b ts us h = decided b (list ts) (list us) ((λ x. ap list (h.0 x)), (λ e. let is : ts ≡ us = cc in h.1 is))

@@ -12,7 +12,7 @@ impl<'a, A: Allocator> Value<'a, A> {
     pub fn is_true(self) -> bool
         ensures { result ≡ is_true (value_seen self.entry) }
     {
-        self.shape().is_word("true")
+        self.is_word("true")
     }
 }
 

@@ -3,9 +3,10 @@ ghost use Rattle.std.specs.Prelude.{◌≡◌};
 ghost use Rattle.def_term.specs.Tree.{atom, list};
 ghost use Rattle.def_term.specs.Order.{rank, tree_cmp, trees_cmp, same};
 ghost use Rattle.tn_term.specs.Views.{tree_of};
-ghost use Rattle.tn_guard.specs.Views.{shape_seen, list_view_seen};
+ghost use Rattle.tn_guard.specs.Views.{value_seen, shape_seen, list_view_seen};
 
 use crate::list_view::ListView;
+use crate::value::Value;
 use std::alloc::Allocator;
 use std::cmp::Ordering;
 use tn_term::{Term, same_terms};
@@ -87,7 +88,18 @@ fn same_parts<A: Allocator, B: Allocator>(one: ListView<'_, A>, other: ListView<
     }
 }
 
-/// The order of two values.
+/// The order of two values. Terms that are lent are compared without shapes.
+#[cycle(order)]
+pub fn order_values<A: Allocator, B: Allocator>(one: Value<'_, A>, other: Value<'_, B>) -> Ordering
+    ensures { result ≡ tree_cmp (value_seen one.entry) (value_seen other.entry) }
+{
+    match (one, other) {
+        (Value::Lent(term), Value::Lent(other)) => term.order(other),
+        _ => order_shapes(one.shape(), other.shape()),
+    }
+}
+
+/// The order of two shapes.
 #[cycle(order)]
 fn order_shapes<A: Allocator, B: Allocator>(one: Shape<'_, A>, other: Shape<'_, B>) -> Ordering
     ensures { result ≡ tree_cmp (shape_seen one.entry) (shape_seen other.entry) }
@@ -111,7 +123,7 @@ fn order_parts<A: Allocator, B: Allocator>(v: ListView<'_, A>, w: ListView<'_, B
     ensures { result ≡ trees_cmp (list_view_seen v.entry) (list_view_seen w.entry) }
 {
     for i in 0..v.len().min(w.len()) {
-        match order_shapes(v.at(i).shape(), w.at(i).shape()) {
+        match order_values(v.at(i), w.at(i)) {
             Ordering::Equal => {}
             unequal => return unequal,
         }

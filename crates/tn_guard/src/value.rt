@@ -96,6 +96,7 @@ impl<'a, A: Allocator> Value<'a, A> {
     {
         match self {
             Value::Lent(term) => other.is_term(term),
+            Value::AtomConst(word) => other.is_word(word.text()),
             _ => self.shape().same(other.shape()),
         }
     }
@@ -107,6 +108,7 @@ impl<'a, A: Allocator> Value<'a, A> {
         match (self, term) {
             (Value::Lent(own), _) => term.same(own),
             (Value::Rest(own), Term::List(items)) => same_terms(items.as_slice(), own),
+            (Value::AtomConst(word), _) => term.is_word(word.text()),
             _ => Shape::of(term).same(self.shape()),
         }
     }
@@ -115,7 +117,10 @@ impl<'a, A: Allocator> Value<'a, A> {
     pub fn is_word(self, text: &str) -> bool
         ensures { result ≡ same (value_seen self.entry) (atom text.now) }
     {
-        self.shape().is_word(text)
+        match self {
+            Value::Lent(term) => term.is_word(text),
+            _ => self.shape().is_word(text),
+        }
     }
 
     /// The text of an atom; None of any other term.

@@ -2,4 +2,5 @@ pub mod Sets
 pub mod Elements
 pub mod Goings
 pub mod Moves
+pub mod Memos
 pub mod CompiledRuns

@@ -1,4 +1,5 @@
 pub mod Views
 pub mod Steps
+pub mod Memos
 pub mod Runs
 pub mod Types

@@ -5,7 +5,9 @@
 //! name. What is evaluated lies in the arena of the caller, the terms of messages too.
 #![tactic(auto)]
 
+mod advance;
 mod execution;
+mod memo;
 mod registers;
 mod steps;
 

@@ -140,7 +140,7 @@ pub fn step<'a, A: Allocator + Copy>(
 }
 
 /// On to the next place, with a register set.
-fn set<'a, A: Allocator>(
+pub fn set<'a, A: Allocator>(
     registers: &mut [Option<Value<'a, A>>],
     to: usize,
     value: Value<'a, A>,
@@ -192,7 +192,7 @@ fn set_applied<'a, A: Allocator>(
 }
 
 /// On to the next place where the test holds, and else away.
-fn go_on_if(holds: bool, place: usize, away: usize) -> Next
+pub fn go_on_if(holds: bool, place: usize, away: usize) -> Next
     requires { place + 1 < 2 ^ 64 }
     ensures { GoesOnIf holds away place result }
 {

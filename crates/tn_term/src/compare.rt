@@ -22,13 +22,15 @@ pub fn same_term<A: Allocator, B: Allocator>(one: &Term<A>, other: &Term<B>) -> 
     }
 }
 
-/// Whether both are the same term. Integers, of which a string has many, need no call.
+/// Whether both are the same term. Terms without elements, of which most lists consist, need no call.
 #[cycle(same)]
 fn same_element<A: Allocator, B: Allocator>(one: &Term<A>, other: &Term<B>) -> bool
     ensures { IsTrue result ↔ (tree_of one.now ≡ tree_of other.now) }
 {
     match (one, other) {
         (Term::Int(m), Term::Int(n)) => *m == *n,
+        (Term::Atom(r), Term::Atom(s)) => r.text() == s.text(),
+        (Term::Pid(m), Term::Pid(n)) => *m == *n,
         _ => same_term(one, other),
     }
 }
@@ -80,13 +82,26 @@ pub fn order_terms<A: Allocator, B: Allocator>(one: &Term<A>, other: &Term<B>) -
     }
 }
 
+/// The order of two terms. Terms without elements, of which most lists consist, need no call.
+#[cycle(order)]
+fn order_element<A: Allocator, B: Allocator>(one: &Term<A>, other: &Term<B>) -> Ordering
+    ensures { result ≡ tree_cmp (tree_of one.now) (tree_of other.now) }
+{
+    match (one, other) {
+        (Term::Int(m), Term::Int(n)) => m.cmp(n),
+        (Term::Atom(r), Term::Atom(s)) => r.text().cmp(s.text()),
+        (Term::Pid(m), Term::Pid(n)) => m.cmp(n),
+        _ => order_terms(one, other),
+    }
+}
+
 /// The order of two lists of terms: that of the first unequal two, then that of the lengths.
 #[cycle(order)]
 fn order_all<A: Allocator, B: Allocator>(v: &Vec<Term<A>, A>, w: &Vec<Term<B>, B>) -> Ordering
     ensures { result ≡ trees_cmp (trees_of v.now.items) (trees_of w.now.items) }
 {
     for i in 0..v.len().min(w.len()) {
-        match order_terms(&v[i], &w[i]) {
+        match order_element(&v[i], &w[i]) {
             Ordering::Equal => {}
             unequal => return unequal,
         }

@@ -1,4 +1,4 @@
-use Rattle.std.proofs.Common.{◌≡◌, ℕ, ◌+◌, ◌≤◌, ◌<◌, List, [], ◌∷◌, length, map, get_or, Some, ap, ap₂, ◌∙◌, arith}
+use Rattle.std.proofs.Common.{◌≡◌, ℕ, ◌≤◌, ◌<◌, List, [], ◌∷◌, length, map, get_or, Some, ap, ap₂, ◌∙◌, arith}
 use Rattle.def_term.specs.Tree.{Tree}
 use Rattle.def_spec.specs.Functions as table
 use Rattle.def_machine.specs.Machine.{Registers, before, terms_in}

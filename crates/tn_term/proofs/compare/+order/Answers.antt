@@ -64,3 +64,14 @@ order_terms-returns-in_default g t c =
       | order_terms-in_default-via-in-List+in_default w ↦ only_list _ _ _ w.in_default.is-0 w.in_default.not-List-1
     ] in
     c.cmp-in_default.ensures ∙ ap₂ nat_cmp c.rank_of.ensures c.rank_of-in_default.ensures ∙ sym (ranks_decide _ _ apart)
+
+pub order_element-returns-in-Int-Int : goal.order_element-returns-in-Int-Int
+order_element-returns-in-Int-Int g t c = c.cmp.ensures ∙ sym (order_of_ints _ _ _ _ c.in-Int-Int.is-0 c.in-Int-Int.is-1)
+
+pub order_element-returns-in-Atom-Atom : goal.order_element-returns-in-Atom-Atom
+order_element-returns-in-Atom-Atom g t c =
+    let p = c.in-Atom-Atom in
+    c.cmp-in-Atom-Atom.ensures ∙ sym (order_of_atoms _ _ _ _ _ _ p.is-0 p.is-1 c.text.ensures.text c.text-in-Atom-Atom.ensures.text)
+
+pub order_element-returns-in-Pid-Pid : goal.order_element-returns-in-Pid-Pid
+order_element-returns-in-Pid-Pid g t c = c.cmp-in-Pid-Pid.ensures ∙ sym (order_of_pids _ _ _ _ c.in-Pid-Pid.is-0 c.in-Pid-Pid.is-1)

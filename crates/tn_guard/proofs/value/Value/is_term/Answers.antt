@@ -5,7 +5,7 @@ use Rattle.tn_term.specs.Views.{tree_of, trees_of}
 use Rattle.tn_term.proofs.Views.{tree_of_list}
 use Rattle.tn_guard.specs.Views.{value_seen}
 use Rattle.tn_guard.proofs.Same.{decided, decided-lists}
-use Rattle.tn_guard.proofs.Views.{value_seen_lent, value_seen_rest}
+use Rattle.tn_guard.proofs.Views.{value_seen_lent, value_seen_rest, value_seen_word}
 use Rattle.tn_guard.proofs.value.Value.is_term.Goals as goal
 
 pub returns-in-Lent-default : goal.returns-in-Lent-default
@@ -21,3 +21,8 @@ returns-in-Rest-List g c =
     decided-lists c.same_terms.result (trees_of c.as_slice.result.now) (trees_of own.now) c.same_terms.ensures
     ∙ ap (λ t. same t (list (trees_of own.now))) (ap (λ xs. list (trees_of xs)) c.as_slice.ensures.value ∙ sym (ap tree_of c.in-Rest-List.is-1 ∙ tree_of_list items))
     ∙ ap (same (tree_of c.args.term.now)) (sym (ap value_seen c.in-Rest-List.is-0 ∙ value_seen_rest own))
+
+pub returns-in-AtomConst-default : goal.returns-in-AtomConst-default
+returns-in-AtomConst-default g c =
+    c.is_word.ensures
+    ∙ ap (same (tree_of c.args.term.now)) (c.text.ensures.seen ∙ sym (ap value_seen c.in-AtomConst-default.is-0 ∙ value_seen_word _ _))
