@@ -84,7 +84,7 @@ complete -c tracenode -n '__fish_seen_subcommand_from explain' -l control -x -a 
 complete -c tracenode -n '__fish_seen_subcommand_from explain' -l session -x -d 'The name of the session'
 complete -c tracenode -n '__fish_seen_subcommand_from explain' -l move -x -d 'The number of the move'
 complete -c tracenode -n '__fish_seen_subcommand_from explain' -l node -d 'Only the moves that a running node does otherwise'
-complete -c tracenode -n '__fish_seen_subcommand_from explain' -l message -x -d 'The pattern of a message that is sent'
+complete -c tracenode -n '__fish_seen_subcommand_from explain' -l message -x -d 'The pattern or the number of a message that is sent'
 complete -c tracenode -n '__fish_seen_subcommand_from explain' -l why-not -x -d 'The pattern of a message that is not sent'
 complete -c tracenode -n '__fish_seen_subcommand_from explain' -l json -d 'Print JSON'
 complete -c tracenode -n '__fish_seen_subcommand_from explain' -l expect -r -d 'The file of the output that is expected'

@@ -1,12 +1,14 @@
-// The texts of reasons.
+// The texts of reasons, and which variables they have.
 ghost use Rattle.std.specs.Prelude.{◌≡◌, OnOk};
+ghost use Rattle.tn_spec.specs.Views.{expr_seen};
 ghost use Rattle.tn_verdict.specs.Views.{reason_seen};
 
 use std::alloc::{AllocError, Allocator};
+use tn_spec::Expr;
 use tn_verdict::Reason;
 
 /// `tn_verdict::put_reason` has one answer but for what stands there after refused memory: that is a part of it.
-pub fn put_reason<A: Allocator, B: Allocator>(
+pub fn put_reason<A: Allocator + Copy, B: Allocator>(
     reason: Reason<'_, A>,
     again: Reason<'_, A>,
     one: &mut Vec<u8, B>,
@@ -18,5 +20,15 @@ pub fn put_reason<A: Allocator, B: Allocator>(
 {
     let first = tn_verdict::put_reason(reason, one);
     let second = tn_verdict::put_reason(again, other);
+    (first, second)
+}
+
+/// `tn_verdict::stands_in` has one answer.
+pub fn stands_in<A: Allocator>(number: u16, expr: &Expr<A>, again: &Expr<A>) -> (bool, bool)
+    requires { expr_seen expr.now ≡ expr_seen again.now }
+    ensures { result.0 ≡ result.1 }
+{
+    let first = tn_verdict::stands_in(number, expr);
+    let second = tn_verdict::stands_in(number, again);
     (first, second)
 }

@@ -1,15 +1,16 @@
 // The jobs of the commands, and what is said of their outcomes.
 ghost use Rattle.std.specs.Prelude.{◌≡◌, IfOk};
-ghost use Rattle.tn_notice.specs.NoticeViews.{command_seen_of, notices_seen};
+ghost use Rattle.tn_notice.specs.NoticeViews.{command_seen_of, notice_seen, notices_seen};
 ghost use Rattle.tn_command.specs.Flaws.{IsFlawBy, IsScheduleFlaw};
-ghost use Rattle.tn_command.specs.Notices.{node_command_of, notice_of_account};
+ghost use Rattle.tn_command.specs.Notices.{node_command_of, notice_of_account, notice_of_message};
 
 use crate::moves_line::tell_run_refusal;
 use crate::remarks::{forms_notice, print_notices, tell_schedule_picks, tell_schedule_remarks};
-use crate::run_outline::{RunOutline, move_count, names_text, sessions_of};
+use crate::run_outline::{RunOutline, move_count, names_text, sent_count, sessions_of};
 use crate::stderr::{NamedText, node_notice, run_fault};
 use std::alloc::Global;
 use tn_explain::{ExplainOutcome, ExplainRequest};
+use tn_message_choice::MessageFilter;
 use tn_moves::Schedule;
 use tn_notice::{CommandFault, NodeCommand, Notice, escape_controls, plain_name, print_notice};
 use tn_replay::{Replay, ReplayOutcome, has_no_forms, schedule_has_remarks, text_has_remarks};
@@ -95,23 +96,63 @@ fn node_command(schedule: &Schedule<'_>) -> NodeCommand
     }
 }
 
-/// What is said of the outcome of an account that is asked for of the session of a name, or of the move of a number.
+/// What is said where no move is asked for by a message, of the session of a name where its number is asked for.
+fn message_notice<'a>(
+    message: Option<MessageFilter<'_>>,
+    session: &'a str,
+    messages: Option<u64>,
+) -> Notice<'a>
+    ensures { notice_seen result ≡ notice_of_message message.entry session.now messages }
+{
+    match message {
+        Some(MessageFilter::Number(number)) => Notice::NoMessage {
+            session,
+            number,
+            messages,
+        },
+        _ => Notice::NoChosenMove,
+    }
+}
+
+/// What is said of the outcome of an account that is asked for of the session of a name, of the move of a number, or by
+/// a message.
 fn account_notice<'a>(
     outcome: ExplainOutcome,
+    message: Option<MessageFilter<'_>>,
     name: &'a str,
     number: u64,
     known: RunOutline<'a>,
 ) -> Option<Notice<'a>>
-    ensures { notices_seen result ≡ notice_of_account outcome name.now number known.entry }
+    ensures { notices_seen result ≡ notice_of_account outcome message.entry name.now number known.entry }
 {
-    let RunOutline { sessions, moves } = known;
+    let RunOutline {
+        sessions,
+        moves,
+        messages,
+    } = known;
     match outcome {
         ExplainOutcome::Account => None,
         ExplainOutcome::Refused(_) => None,
         ExplainOutcome::NoSession => Some(Notice::NoSession { name, sessions }),
         ExplainOutcome::NoMove => Some(Notice::NoMove { number, moves }),
         ExplainOutcome::NoDifference => Some(Notice::NoNodeMove),
-        ExplainOutcome::NoMessage => Some(Notice::NoChosenMove),
+        ExplainOutcome::NoMessage => Some(message_notice(message, name, messages)),
+    }
+}
+
+/// How many messages the session sends that is asked about, where it sends none of the number that is asked for.
+fn missing_messages<R: AllocGlobal>(
+    rt: &R,
+    request: &ExplainRequest<'_>,
+    outcome: ExplainOutcome,
+    script: NamedText<'_>,
+) -> Option<u64> {
+    match (outcome, request.message) {
+        (ExplainOutcome::NoMessage, Some(MessageFilter::Number(_))) => {
+            let session = request.filter.session.unwrap_or("");
+            sent_count(rt.alloc(), script.bytes, &request.schedule, session)
+        }
+        _ => None,
     }
 }
 
@@ -136,8 +177,10 @@ fn tell_no_account<R: Eprint + AllocGlobal>(
     let known = RunOutline {
         sessions: names_text(&sessions),
         moves,
+        messages: missing_messages(rt, request, outcome, script),
     };
-    print_notices(rt, account_notice(outcome, name, number, known));
+    let notice = account_notice(outcome, request.message, name, number, known);
+    print_notices(rt, notice);
 }
 
 impl Command for Replay<'_> {

@@ -22,7 +22,9 @@ fn state_notice<'a>(
 ) -> Option<Notice<'a>>
     ensures { notices_seen result ≡ notice_of_state outcome name.now number known.entry }
 {
-    let RunOutline { sessions, moves } = known;
+    let RunOutline {
+        sessions, moves, ..
+    } = known;
     match outcome {
         StateOutcome::State => None,
         StateOutcome::Refused(_) => None,
@@ -51,6 +53,7 @@ fn tell_no_state<R: Eprint + AllocGlobal>(
     let known = RunOutline {
         sessions: names_text(&sessions),
         moves,
+        messages: None,
     };
     print_notices(
         rt,

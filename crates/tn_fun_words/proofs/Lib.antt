@@ -4,6 +4,7 @@ pub mod Conditions
 pub mod ClauseLists
 pub mod Fronts
 pub mod Reasons
+pub mod BoundNames
 pub mod NoteLists
 pub mod FunAnswers
 pub mod NoRefusals

@@ -8,7 +8,7 @@ use Rattle.std.specs.declared.vec.Vec.{Vec}
 use Rattle.def_term.specs.Names.{Name}
 use Rattle.def_term.specs.Text.{is_among}
 use Rattle.def_fun.specs.Trees.{FunExpr, variable, whole, atom, strings, in_parens, call, list, list_onto, tuple, before, between, FunExprs, none, more}
-use Rattle.def_fun.specs.Variables.{variables_in, variables_in_each, name_of_variable, with_name, with_names}
+use Rattle.def_fun.specs.Variables.{variables_in, variables_in_each, name_of_variable, with_names}
 use Rattle.def_fun.proofs.NamesGrow.{names_after}
 use Rattle.def_fun_words.specs.Notes.{noted_parts_of, parts_of_each}
 use Rattle.def_fun_words.specs.WordTexts.{name_numbered}

@@ -9,7 +9,7 @@ use Rattle.def_explain.specs.Reasons.{ConditionReason, Reason, by_condition}
 use Rattle.def_explain.specs.ReasonTexts.{found_text}
 use Rattle.def_explain.specs.Texts.{head_reason_text, condition_reason_text, reason_text}
 use Rattle.def_fun_words.specs.Words.{ClauseWords}
-use Rattle.def_fun_words.specs.WordTexts.{line_part_text, line_parts_text, clause_after, condition_after, variable_words, variable_named, name_numbered, head_parts, reason_parts, line_in, failed_line}
+use Rattle.def_fun_words.specs.WordTexts.{line_part_text, line_parts_text, clause_after, variable_words, variable_named, name_numbered, head_parts, reason_parts, line_in, failed_line}
 use Rattle.tn_verdict.specs.MismatchTexts.{level_text}
 
 -- one text alone is one part
@@ -37,13 +37,10 @@ bound_written ws ns n k place t v o z h made =
     ∙ bound_pieces o (((codes "the head doesn't match at element " ++ decimal (suc n)) ++ flat_map level_text place) ++ codes ": ") (variable_words (name_numbered ns k) k) (codes " is ") (w t) (codes ", found ") (w v)
     ∙ ap (λ x. o ++ ((((codes "the head doesn't match at element " ++ decimal (suc n)) ++ flat_map level_text place) ++ codes ": ") ++ (variable_words x k ++ (((codes " is " ++ w t) ++ found_text v) ++ [])))) (h k)
 
--- a condition, of whose reason the words of `spec` are left out at the front
-pub condition_ok : {T E : Type 0} (done : Result T E) (ws : Option ClauseWords) (k : ℕ) (r : ConditionReason) (o m d rest : List ℕ) → m ≡ o ++ line_part_text ws (condition_after k) → rest ≡ condition_reason_text r
-    → OnOk done (d ≡ m ++ rest) → OnOk done (d ≡ o ++ line_parts_text ws (reason_parts (by_condition k r)))
-condition_ok (Ok v) ws k r o m d rest first same h =
-    h ∙ ap (λ s. s ++ rest) first ∙ append_assoc o (line_part_text ws (condition_after k)) rest
-    ∙ ap (λ s. o ++ (line_part_text ws (condition_after k) ++ s)) (same ∙ sym (append-nil (condition_reason_text r)))
-condition_ok (Err e) ws k r o m d rest first same h = tt
+-- a fault, of whose reason the words of `spec` are left out at the front
+pub fault_ok : {T E : Type 0} (done : Result T E) (r : ConditionReason) (o d rest : List ℕ) → rest ≡ condition_reason_text r → OnOk done (d ≡ o ++ rest) → OnOk done (d ≡ o ++ condition_reason_text r)
+fault_ok (Ok v) r o d rest same h = h ∙ ap (λ s. o ++ s) same
+fault_ok (Err e) r o d rest same h = tt
 
 failed_pieces : (o number colon reason : List ℕ) → (((o ++ number) ++ colon) ++ reason) ++ 10 ∷ [] ≡ o ++ ((number ++ (colon ++ reason)) ++ 10 ∷ [])
 failed_pieces o number colon reason = simp append_assoc

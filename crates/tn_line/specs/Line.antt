@@ -107,7 +107,7 @@ REPLAY = codes "script" ∷ codes "picks" ∷ codes "picks-file" ∷ codes "move
 abbrev pub EXPLAIN : List (List ℕ)
 EXPLAIN =
     codes "script" ∷ codes "picks" ∷ codes "picks-file" ∷ codes "moves" ∷ codes "moves-file" ∷ codes "round" ∷ codes "limit" ∷ codes "control"
-    ∷ codes "session" ∷ codes "move" ∷ codes "node" ∷ codes "message" ∷ codes "why-not" ∷ codes "json" ∷ EXPECTATION
+    ∷ codes "number" ∷ codes "session" ∷ codes "move" ∷ codes "node" ∷ codes "message" ∷ codes "why-not" ∷ codes "json" ∷ EXPECTATION
 
 -- the arguments of `state`
 abbrev pub STATE : List (List ℕ)

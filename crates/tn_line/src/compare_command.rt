@@ -7,6 +7,11 @@ use crate::explore_command::{after, first_control, listing_order, max_states, on
 use clap::{Arg, ArgAction, Command};
 use std::alloc::{AllocError, Global};
 
+/// What stands below the help of `compare`.
+const EXAMPLE: &str = "\
+Example:
+  tracenode compare examples/race.term --trace examples/race.trace";
+
 /// `--trace FILE`, which is required.
 fn trace<'a>(alloc: Global) -> Arg<'a>
     ensures { IsOption (codes "trace") result }
@@ -35,6 +40,7 @@ fn traces<'a>(alloc: Global) -> Result<Command<'a>, AllocError>
     ensures { IfOk result (IsCommand (codes "compare") TRACES) }
 {
     Command::new(alloc, "compare")
+        .after_help(EXAMPLE)
         .about(
             "Says whether a trace that a node printed is one of a run of the\nscript, and of which",
         )

@@ -34,6 +34,11 @@ pub(crate) fn first_control<'a>(alloc: Global) -> Result<Arg<'a>, AllocError>
         .conflicts_with("after")
 }
 
+/// What stands below the help of `explore`.
+const EXAMPLE: &str = "\
+Example:
+  tracenode explore examples/race.term";
+
 /// Which messages of a session may be in an order.
 const LISTING_ORDERS: &[&str] = &["process", "total"];
 
@@ -174,7 +179,7 @@ fn reduce<'a>(alloc: Global) -> Result<Arg<'a>, AllocError>
     Arg::new(alloc, "reduce")
         .long("reduce")
         .help(
-            "Tries a move alone that is independent of all others: the same listings, of fewer states",
+            "Tries a move alone that is independent of all\nothers: the same listings, of fewer states",
         )
         .action(ArgAction::SetTrue)
         .conflicts_with("random")
@@ -185,6 +190,7 @@ fn schedules<'a>(alloc: Global) -> Result<Command<'a>, AllocError>
     ensures { IfOk result (IsCommand (codes "explore") SCHEDULES) }
 {
     Command::new(alloc, "explore")
+        .after_help(EXAMPLE)
         .about("Runs the script by all schedules, and prints each listing that a\nsession can have")
         .arg(script(alloc))?
         .arg(after(alloc))?

@@ -14,7 +14,7 @@ use tn_command::{Command, NamedText, run_fault};
 use tn_explain::{ExplainOutcome, ExplainRequest, Filter};
 use tn_formats::Format;
 use tn_listing::PicksFault;
-use tn_message_choice::MessageChoice;
+use tn_message_choice::MessageFilter;
 use tn_moves::Schedule;
 use tn_notice::CommandFault;
 use tn_picture::{DrawOutcome, DrawRequest};
@@ -56,7 +56,7 @@ fn listing_job(schedule: Schedule<'_>, quiet: bool, strict: bool) -> RequestJob<
 fn explain_job<'a>(
     schedule: Schedule<'a>,
     filter: Filter<'a>,
-    message: Option<MessageChoice<'a>>,
+    message: Option<MessageFilter<'a>>,
 ) -> RequestJob<'a>
     ensures { task_seen result ≡
         account_task (schedule_seen schedule.entry) (account_question_seen filter.entry message.entry) }

@@ -1,5 +1,6 @@
 pub mod Steps
 pub mod Answers
+pub mod BoundTexts
 pub mod ClauseTexts
 pub mod Digits
 pub mod EffectTexts

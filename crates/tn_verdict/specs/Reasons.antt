@@ -4,7 +4,6 @@ use Rattle.std.specs.declared.alloc.Allocator.{Ghosts}
 use Rattle.std.specs.declared.vec.Vec.{Vec}
 use Rattle.def_spec.specs.Expressions as ex
 use Rattle.def_explain.specs.Heads as heads
-use Rattle.def_explain.specs.Reasons as reasons
 use Rattle.def_explain.specs.Values as faults
 use Rattle.def_explain.specs.Verdicts as verdicts
 use Rattle.tn_guard.specs.Views.{parts_list}
@@ -44,7 +43,3 @@ module _ {A : Type 0} {G : Ghosts A} (s : EvalContext A G) where
   abbrev pub fault_in_turn : Bool → ex.Exprs → Option ex.Expr
   fault_in_turn true es = faults.fault_until_true (dialect_of s.dialect) (bindings_seen s.bindings.now) (context_seen s.context.now) es
   fault_in_turn false es = faults.fault_while_true (dialect_of s.dialect) (bindings_seen s.bindings.now) (context_seen s.context.now) es
-
-  -- why the first condition that isn't true isn't, after so many
-  abbrev pub untrue_of : ℕ → ex.Exprs → Option reasons.Reason
-  untrue_of n es = reasons.untrue_in (dialect_of s.dialect) (bindings_seen s.bindings.now) (context_seen s.context.now) n es

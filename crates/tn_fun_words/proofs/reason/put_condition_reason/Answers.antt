@@ -1,18 +1,25 @@
 use Rattle.std.specs.Option.{option_map}
+use Rattle.def_explain.specs.Reasons.{has_value, faults_at}
 use Rattle.def_explain.specs.Texts.{condition_reason_text}
-use Rattle.tn_verdict.specs.Views.{condition_seen}
-use Rattle.tn_verdict.proofs.Pieces.{put_ok}
+use Rattle.tn_guard.specs.Views.{value_seen}
+use Rattle.tn_spec.specs.Views.{expr_seen}
+use Rattle.tn_verdict.specs.Views.{bound_seen}
 use Rattle.tn_fun_words.specs.Views.{clause_words_seen}
-use Rattle.tn_fun_words.proofs.Reasons.{after_number, condition_ok}
+use Rattle.tn_fun_words.proofs.BoundNames.{parts_ok}
+use Rattle.tn_fun_words.proofs.Reasons.{alone_ok}
 use Rattle.tn_fun_words.proofs.reason.put_condition_reason.Goals as goal
 
-pub returns : goal.returns
-returns g c =
-    let done = c.extend_from_slice.result in
-    let r = condition_seen c.args.why in
-    condition_ok done (option_map clause_words_seen c.args.words) c.args.index r c.args.out.now.items c.put_condition_words.new.out.items c.extend_from_slice.new.self.items c.after_front.result.now
+pub returns-in-HasValue : goal.returns-in-HasValue
+returns-in-HasValue g c =
+    let r = has_value (value_seen c.in-HasValue.value) (bound_seen c.in-HasValue.bound) in
+    rw c.in-HasValue.is
+    (parts_ok c.put_value.result (option_map clause_words_seen c.args.words) c.args.index r c.args.out.now.items c.put_condition_words.new.out.items c.put_value.new.out.items
+    c.in_ok-put_condition_words.ensures c.put_value.ensures)
+
+pub returns-in-FaultsAt : goal.returns-in-FaultsAt
+returns-in-FaultsAt g c =
+    let r = faults_at (expr_seen c.in-FaultsAt.field-0.now) in
+    rw c.in-FaultsAt.is
+    (parts_ok c.put_fault.result (option_map clause_words_seen c.args.words) c.args.index r c.args.out.now.items c.put_condition_words.new.out.items c.put_fault.new.out.items
     c.in_ok-put_condition_words.ensures
-    (c.after_front.ensures (condition_reason_text r)
-    (after_number c.args.index r c.deref.result.now c.deref-2.result.now c.put_reason.new.out.items c.put_plain_condition.new.out.items c.new-whole.result.items c.new-front.result.items
-    c.deref.ensures.value c.in_ok-put_reason.ensures.ok c.new-whole.ensures.items c.deref-2.ensures.value c.in_ok-put_plain_condition.ensures c.new-front.ensures.items))
-    (put_ok done c.put_condition_words.new.out.items c.after_front.result.now c.extend_from_slice.new.self.items c.extend_from_slice.ensures.items)
+    (alone_ok c.put_fault.result c.put_condition_words.new.out.items (condition_reason_text r) c.put_fault.new.out.items (rw c.in-FaultsAt.is at c.put_fault.ensures)))
