@@ -125,13 +125,20 @@ def values(output):
     return found
 
 
+# The text of a term: it has no colon but in quotes.
+WRITTEN_TERM = r"(?:'(?:[^'\\]|\\.)*'|[^':])*"
+
 # What the first words of a line that explains say, and the members that it has then.
 LINE_WORDS = (
     (r"clause (\d+)(?: \(line \d+\))? fires", lambda n: {"clause": int(n), "fires": True}),
     (r"clause (\d+)(?: \(line \d+\))? fires: (.*)", lambda n, effects: {"clause": int(n), "fires": True, "effects": effects}),
     (
-        r"clause (\d+)(?: \(line \d+\))?: condition (\d+) is (.*)",
+        rf"clause (\d+)(?: \(line \d+\))?: condition (\d+) is ({WRITTEN_TERM})",
         lambda n, m, value: {"clause": int(n), "fires": False, "condition": int(m), "value": value},
+    ),
+    (
+        rf"clause (\d+)(?: \(line \d+\))?: condition (\d+) is ({WRITTEN_TERM}): (.*)",
+        lambda n, m, value, bound: {"clause": int(n), "fires": False, "condition": int(m), "value": value, "bound": bound},
     ),
     (
         r"clause (\d+)(?: \(line \d+\))?: condition (\d+) faults at (.*)",

@@ -395,7 +395,10 @@ def in_words(fun, lines):
                 said = f": guard {guards[int(condition) - 1]}"
             elif variable:
                 said = reason.replace(f"'${variable}'", names[int(variable) - 1])
-            line = f"clause {number} (line {where}){said}{line[found.end() :]}"
+            rest = line[found.end() :]
+            if condition:
+                rest = re.sub(r"(: |, )'\$(\d+)' is ", lambda name: f"{name[1]}{names[int(name[2]) - 1]} is ", rest)
+            line = f"clause {number} (line {where}){said}{rest}"
         elif line.startswith("  '$"):
             number = re.match(r"  '\$(\d+)'", line).group(1)
             line = f"  {names[int(number) - 1]}{line[len(number) + 5 :]}"

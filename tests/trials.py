@@ -16,7 +16,7 @@ TRIALS = (
         "[{['$1','_'],[{is_integer,'$1'}],[]},{['$1','_'],[],[{message,{{second,'$1'}}}]},{'_',[],["
         "]}]",
         (
-            "clause 1: condition 1 is false",
+            "clause 1: condition 1 is false: '$1' is hi",
             "clause 2 fires: message {second,hi}",
             "  '$1' is hi",
             "=> a message that ends in {second,hi}",
@@ -39,7 +39,20 @@ TRIALS = (
         "[3]",
         "[{['$1'],[true,{'>','$1',2},{'+','$1',1}],[]}]",
         (
-            "clause 1: condition 3 is 4",
+            "clause 1: condition 3 is 4: '$1' is 3",
+            "=> no message: no clause fires",
+        ),
+    ),
+    # The variables that stand in it come by rising number, `'$$'` has all of them, and `'$_'` has none.
+    (
+        "[a,[1],x]",
+        "[{['$1','$0','$2'],[{'>','$1','$0'}],[]},{['$1','$0','$2'],[{'==','$$',[]}],[]},"
+        "{['$1','$0','$2'],[{'==','$_',[]}],[]},{'$3',[{'==',{hd,'$3'},b}],[]}]",
+        (
+            "clause 1: condition 1 is false: '$0' is [1], '$1' is a",
+            "clause 2: condition 1 is false: '$0' is [1], '$1' is a, '$2' is x",
+            "clause 3: condition 1 is false",
+            "clause 4: condition 1 is false: '$3' is [a,[1],x]",
             "=> no message: no clause fires",
         ),
     ),
@@ -59,7 +72,7 @@ TRIALS = (
         "[{['$1'],[{'andalso',false,{hd,'$1'}}],[]},{['$1'],[{'andalso',true,{hd,'$1'}}],[]},{['$1'"
         "],[{'orelse',true,{hd,'$1'}}],[]}]",
         (
-            "clause 1: condition 1 is false",
+            "clause 1: condition 1 is false: '$1' is a",
             "clause 2: condition 1 faults at {hd,'$1'}",
             "clause 3 fires",
             "  '$1' is a",
@@ -581,7 +594,8 @@ def of_depth():
     ):
         expression = nested(before, inner, behind, levels)
         fired = (*fires({"$1": "false"}), *([LOGIC] if inner in ("'$_'", "'$$'") else []))
-        yield "[false]", f"[{{['$1'],[{expression}],[]}}]", fired if value == "true" else fails(f"condition 1 is {value}")
+        bound = ": '$1' is false" if inner in ("'$1'", "'$$'") else ""
+        yield "[false]", f"[{{['$1'],[{expression}],[]}}]", fired if value == "true" else fails(f"condition 1 is {value}{bound}")
         yield "[false]", f"[{{['$1'],[],[{expression}]}}]", fired
     asks = ["return_trace", *["message true"] * (DEEPEST - 1)]
     action = nested("{message,", "{return_trace}", "}", DEEPEST - 1)
@@ -598,8 +612,8 @@ def of_length():
     values = "[" + many("'$1'") + "]"
     lists, lists_but_one, pids = many("{is_list,'$1'}"), many("{is_list,'$1'}", ELEMENTS - 1), many("{is_pid,'$1'}")
     yield "[]", f"[{{'$1',[{lists}],[{values},{{const,{values}}}]}}]", fires({"$1": "[]"})
-    yield "[]", f"[{{'$1',[{lists_but_one},{{is_pid,'$1'}}],[]}}]", fails(f"condition {ELEMENTS} is false")
-    yield "[]", f"[{{'$1',[{pids}],[]}}]", fails("condition 1 is false")
+    yield "[]", f"[{{'$1',[{lists_but_one},{{is_pid,'$1'}}],[]}}]", fails(f"condition {ELEMENTS} is false: '$1' is []")
+    yield "[]", f"[{{'$1',[{pids}],[]}}]", fails("condition 1 is false: '$1' is []")
     for body, value in ((values, f"[{many('[]')}]"), (f"{{const,{values}}}", values)):
         yield "[]", f"[{{'$1',[],[{{message,{body}}}]}}]", fires({"$1": "[]"}, [f"message {value}"], value)
     args, fields = many("true", FIELDS - 1), "{" + many("7", FIELDS) + "}"

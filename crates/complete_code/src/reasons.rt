@@ -6,7 +6,7 @@ use std::alloc::{AllocError, Allocator};
 use tn_verdict::Reason;
 
 /// `tn_verdict::put_reason` has one answer but for what stands there after refused memory: that is a part of it.
-pub fn put_reason<A: Allocator, B: Allocator>(
+pub fn put_reason<A: Allocator + Copy, B: Allocator>(
     reason: Reason<'_, A>,
     again: Reason<'_, A>,
     one: &mut Vec<u8, B>,

@@ -10,7 +10,7 @@ use Rattle.def_spec.proofs.Binding.{bind-matches, matches-bind}
 use Rattle.def_spec.proofs.Outcomes.{walk_misses_none, binding_is_unique}
 use Rattle.def_explain.specs.Heads.{HeadReason, head_reason, IsHeadReason}
 use Rattle.def_explain.specs.Values.{fault_in}
-use Rattle.def_explain.specs.Reasons.{ConditionReason, has_value, faults_at, Reason, by_head, by_condition, IsUntrue, StopsAt, IsReason, untrue_by, untrue_in, as_reason, reason_by, reason_of}
+use Rattle.def_explain.specs.Reasons.{ConditionReason, has_value, faults_at, Reason, by_head, by_condition, bound_within, IsUntrue, StopsAt, IsReason, untrue_by, untrue_in, as_reason, reason_by, reason_of}
 use Rattle.def_explain.specs.Laws.{ReasonWhereNotFired, ReasonIsOne, ReasonIsComputed, HeadReasonWhereNotMatched}
 use Rattle.def_explain.proofs.HeadStops.{head_sound, head_complete, head_there, head_matched}
 use Rattle.def_explain.proofs.FaultPlaces.{Tied, tied, fault_sound, fault_complete}
@@ -31,27 +31,30 @@ head_reason_where_not_matched p ts = (
 module _ (d : Dialect) (b : Bindings) (c : Context) where
   -- ---- a condition that isn't true
 
-  untrue_is : (e : Expr) (n : ℕ) (v : Option Tree) (x : Option Expr) (next : Option Reason) (r : Reason) → value d in_condition b c e ≡ v → fault_in d b c e ≡ x → untrue_by n v x next ≡ Some r → ((w : ConditionReason) × (r ≡ by_condition n w) × IsUntrue d b c e w) ⊎ ((value d in_condition b c e ≡ Some (truth true)) × (next ≡ Some r))
+  untrue_is : (e : Expr) (n : ℕ) (v : Option Tree) (x : Option Expr) (next : Option Reason) (r : Reason) → value d in_condition b c e ≡ v → fault_in d b c e ≡ x → untrue_by n (bound_within e b) v x next ≡ Some r → ((w : ConditionReason) × (r ≡ by_condition n w) × IsUntrue d b c e w) ⊎ ((value d in_condition b c e ≡ Some (truth true)) × (next ≡ Some r))
   untrue_is e n None None next r h k l = absurd (cc l)
   untrue_is e n None (Some x) next r h k l = inl (faults_at x, sym (some_is _ _ l), fault_sound d b c e x k)
   untrue_is e n (Some t) x next r h k l = go (is_true t) refl l
     where
-      go : (q : Bool) → is_true t ≡ q → (if q then next else Some (by_condition n (has_value t))) ≡ Some r → ((w : ConditionReason) × (r ≡ by_condition n w) × IsUntrue d b c e w) ⊎ ((value d in_condition b c e ≡ Some (truth true)) × (next ≡ Some r))
+      go : (q : Bool) → is_true t ≡ q → (if q then next else Some (by_condition n (has_value t (bound_within e b)))) ≡ Some r → ((w : ConditionReason) × (r ≡ by_condition n w) × IsUntrue d b c e w) ⊎ ((value d in_condition b c e ≡ Some (truth true)) × (next ≡ Some r))
       go true f g = inr (h ∙ ap Some (same-is t (truth true) f), g)
-      go false f g = inl (has_value t, sym (some_is _ _ g), (h, f))
+      go false f g = inl (has_value t (bound_within e b), sym (some_is _ _ g), (h, f, refl))
 
-  untrue_there : (e : Expr) (n : ℕ) (w : ConditionReason) (next : Option Reason) → IsUntrue d b c e w → untrue_by n (value d in_condition b c e) (fault_in d b c e) next ≡ Some (by_condition n w)
-  untrue_there e n (has_value t) next h = ap (λ v. untrue_by n v (fault_in d b c e) next) h.0 ∙ ap (λ q. if q then next else Some (by_condition n (has_value t))) h.1
+  untrue_there : (e : Expr) (n : ℕ) (w : ConditionReason) (next : Option Reason) → IsUntrue d b c e w → untrue_by n (bound_within e b) (value d in_condition b c e) (fault_in d b c e) next ≡ Some (by_condition n w)
+  untrue_there e n (has_value t bound) next h =
+      ap (λ v. untrue_by n (bound_within e b) v (fault_in d b c e) next) h.0
+      ∙ ap (λ q. if q then next else Some (by_condition n (has_value t (bound_within e b)))) h.1
+      ∙ ap (λ x. Some (by_condition n (has_value t x))) (sym h.2)
   untrue_there e n (faults_at x) next h =
       let f : fault_in d b c e ≡ Some x = fault_complete d b c e x h in
       go (value d in_condition b c e) (tied d b c e) f
     where
-      go : (v : Option Tree) → Tied v (fault_in d b c e) → fault_in d b c e ≡ Some x → untrue_by n v (fault_in d b c e) next ≡ Some (by_condition n (faults_at x))
-      go None t f = ap (λ y. untrue_by n None y next) f
+      go : (v : Option Tree) → Tied v (fault_in d b c e) → fault_in d b c e ≡ Some x → untrue_by n (bound_within e b) v (fault_in d b c e) next ≡ Some (by_condition n (faults_at x))
+      go None t f = ap (λ y. untrue_by n (bound_within e b) None y next) f
       go (Some u) t f = absurd (subst (Tied (Some u)) f t)
 
-  passed_by : (e : Expr) (n : ℕ) (next : Option Reason) → value d in_condition b c e ≡ Some (truth true) → untrue_by n (value d in_condition b c e) (fault_in d b c e) next ≡ next
-  passed_by e n next h = ap (λ v. untrue_by n v (fault_in d b c e) next) h ∙ ap (λ q. if q then next else Some (by_condition n (has_value (truth true)))) (same-self (truth true))
+  passed_by : (e : Expr) (n : ℕ) (next : Option Reason) → value d in_condition b c e ≡ Some (truth true) → untrue_by n (bound_within e b) (value d in_condition b c e) (fault_in d b c e) next ≡ next
+  passed_by e n next h = ap (λ v. untrue_by n (bound_within e b) v (fault_in d b c e) next) h ∙ ap (λ q. if q then next else Some (by_condition n (has_value (truth true) (bound_within e b)))) (same-self (truth true))
 
   -- ---- the first that isn't
 
@@ -79,12 +82,12 @@ module _ (d : Dialect) (b : Bindings) (c : Context) where
   untrue_none n no_exprs h = refl
   untrue_none n (and_expr e es) h = passed_by e n (untrue_in d b c (suc n) es) h.0 ∙ untrue_none (suc n) es h.1
 
-  all_true_is : (e : Expr) (n : ℕ) (v : Option Tree) (x : Option Expr) (next : Option Reason) → value d in_condition b c e ≡ v → Tied v x → untrue_by n v x next ≡ None → (value d in_condition b c e ≡ Some (truth true)) × (next ≡ None)
+  all_true_is : (e : Expr) (n : ℕ) (v : Option Tree) (x : Option Expr) (next : Option Reason) → value d in_condition b c e ≡ v → Tied v x → untrue_by n (bound_within e b) v x next ≡ None → (value d in_condition b c e ≡ Some (truth true)) × (next ≡ None)
   all_true_is e n None None next h t k = absurd t
   all_true_is e n None (Some x) next h t k = absurd (cc k)
   all_true_is e n (Some u) x next h t k = go (is_true u) refl k
     where
-      go : (q : Bool) → is_true u ≡ q → (if q then next else Some (by_condition n (has_value u))) ≡ None → (value d in_condition b c e ≡ Some (truth true)) × (next ≡ None)
+      go : (q : Bool) → is_true u ≡ q → (if q then next else Some (by_condition n (has_value u (bound_within e b)))) ≡ None → (value d in_condition b c e ≡ Some (truth true)) × (next ≡ None)
       go true f g = (h ∙ ap Some (same-is u (truth true) f), g)
       go false f g = absurd (cc g)
 

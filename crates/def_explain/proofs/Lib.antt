@@ -5,6 +5,7 @@ mod ClauseReasons
 mod ClauseStops
 pub mod ClauseVerdicts
 mod FaultPlaces
+mod Variables
 pub mod Mismatches
 pub mod HeadStops
 mod Names

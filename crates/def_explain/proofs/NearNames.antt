@@ -1,11 +1,11 @@
 -- Names that are found to be near are, and worked rows.
-use Rattle.std.proofs.Common.{◌≡◌, ◌≤◌, ◌⊎◌, inl, inr, ◌∙◌, ℕ, Bool, true, false, ◌||◌, ◌&&◌, if◌then◌else◌, List, [], ◌∷◌, ◌++◌, length, drop, Some, None, codes, refl, sym, ap, arith, append_assoc}
+use Rattle.std.proofs.Common.{◌≡◌, ◌⊎◌, inl, inr, ◌∙◌, Bool, true, false, ◌||◌, ◌&&◌, if◌then◌else◌, [], ◌∷◌, ◌++◌, drop, codes, refl, sym, ap, arith, append_assoc}
 use Rattle.std.specs.Prelude.{◌==◌}
 use Rattle.std.specs.Str.{bytes_eq}
 use Rattle.std.proofs.lemmas.Slice.Eq.{bytes_eq-Decides}
 use Rattle.std.proofs.lemmas.Bool.{eqb-true}
 use Rattle.def_term.specs.Names.{Name}
-use Rattle.def_explain.specs.NearNames.{IsSlip, AreNear, after_common, are_swapped, differ_by_one, is_near, NearNamesAreNear}
+use Rattle.def_explain.specs.NearNames.{IsSlip, after_common, are_swapped, differ_by_one, is_near, NearNamesAreNear}
 
 either : (a b : Bool) → (a || b) ≡ true → (a ≡ true) ⊎ (b ≡ true)
 either true b h = inl refl

@@ -54,7 +54,7 @@ pub term_for_list : reason_of for_calls (clause (only_term (word "a")) no_exprs)
 term_for_list = refl
 
 -- {'>','$1',3} where '$1' is 2
-pub false_condition : reason_of for_calls (clause (pair (variable 1) anything) (and_expr (above (bound_to 1) (constant (number 3))) no_exprs)) (on (number 2 ∷ number 0 ∷ [])) ≡ Some (by_condition 0 (has_value (word "false")))
+pub false_condition : reason_of for_calls (clause (pair (variable 1) anything) (and_expr (above (bound_to 1) (constant (number 3))) no_exprs)) (on (number 2 ∷ number 0 ∷ [])) ≡ Some (by_condition 0 (has_value (word "false") ((1, number 2) ∷ [])))
 false_condition = refl
 
 -- {hd,'$1'} where '$1' is [], after a condition that is true
@@ -62,7 +62,7 @@ pub fault_of_head : reason_of for_calls (clause (pair (variable 1) anything) (an
 fault_of_head = refl
 
 -- {'andalso',false,{hd,[]}} is false, and doesn't fault
-pub early_stop : reason_of for_calls (clause anything (and_expr (and_also (and_expr (constant (word "false")) (and_expr (unary fn.head (constant (list none))) no_exprs))) no_exprs)) (on []) ≡ Some (by_condition 0 (has_value (word "false")))
+pub early_stop : reason_of for_calls (clause anything (and_expr (and_also (and_expr (constant (word "false")) (and_expr (unary fn.head (constant (list none))) no_exprs))) no_exprs)) (on []) ≡ Some (by_condition 0 (has_value (word "false") []))
 early_stop = refl
 
 -- ---- where a head differs first
@@ -155,7 +155,7 @@ pub global_setting : cause_of (set_for plain (flagged (only call_flag))) (called
 global_setting = refl
 
 -- no clause fires, with the reason of each
-pub no_clause_fires : cause_of (set_for (by (record { dialect = for_calls; clauses = clause (pair anything anything) no_exprs ∷ clause anything (and_expr (constant (word "false")) no_exprs) ∷ [] })) (flagged (only call_flag))) (called 100 (record local_call { named = true })) ≡ Some (no_clause (by_head other_length ∷ by_condition 0 (has_value (word "false")) ∷ []))
+pub no_clause_fires : cause_of (set_for (by (record { dialect = for_calls; clauses = clause (pair anything anything) no_exprs ∷ clause anything (and_expr (constant (word "false")) no_exprs) ∷ [] })) (flagged (only call_flag))) (called 100 (record local_call { named = true })) ≡ Some (no_clause (by_head other_length ∷ by_condition 0 (has_value (word "false") []) ∷ []))
 no_clause_fires = refl
 
 -- {message,false}

@@ -77,7 +77,7 @@ pub clauses_of_a_call : account_text everything (program (function "go" [] (call
     ≡ lines ("1 0 {session_create,s1,t1,[]}" ∷ "  s1: replies {session,s1}" ∷ "2 0 {process,s1,all,true,[call]}" ∷ "  s1: replies 1"
     ∷ "3 0 {function,s1,{m,f,1},[{[a],[],[]},{['$1'],[{'>','$1',1}],[]},{'_',[],[{return_trace}]}],[]}" ∷ "  s1: replies 1"
     ∷ "4 100 <0.100.0> call {m,go,[]}" ∷ "  s1: no setting for m:go/0"
-    ∷ "5 100 <0.100.0> call {m,f,[1]}" ∷ "  s1: clause 1: the head doesn't match at element 1: a expected, found 1" ∷ "  s1: clause 2: condition 1 is false" ∷ "  s1: clause 3 fires: return_trace"
+    ∷ "5 100 <0.100.0> call {m,f,[1]}" ∷ "  s1: clause 1: the head doesn't match at element 1: a expected, found 1" ∷ "  s1: clause 2: condition 1 is false: '$1' is 1" ∷ "  s1: clause 3 fires: return_trace"
     ∷ "  s1: => {trace,<0.100.0>,call,{m,f,[1]}}" ∷ "  s1: the call is marked"
     ∷ "6 100 <0.100.0> return_from {m,f,1} ok" ∷ "  s1: => {trace,<0.100.0>,return_from,{m,f,1},ok}" ∷ "  s1: the mark is gone" ∷ [])
 unfolding is_written_bare digits

@@ -98,7 +98,7 @@ no_tuple = refl
 
 -- two clauses that don't fire, one that does, and one that isn't reached
 pub third_fires : spec_test_text for_calls (of_integer ∷ of_twice ∷ with_message ∷ of_head ∷ []) hi_one
-    ≡ codes "clause 1: condition 1 is false\nclause 2: the head doesn't match at element 2: '$1' is hi, found 1\nclause 3 fires: message {second,hi}, <0.100.0> gets send\n  '$1' is hi\n=> a message that ends in {second,hi}\non a node: erlang:match_spec_test/3 with this list ends the node, and so do dbg:tp, dbg:tpl and dbg:tpe where the list is []\n"
+    ≡ codes "clause 1: condition 1 is false: '$1' is hi\nclause 2: the head doesn't match at element 2: '$1' is hi, found 1\nclause 3 fires: message {second,hi}, <0.100.0> gets send\n  '$1' is hi\n=> a message that ends in {second,hi}\non a node: erlang:match_spec_test/3 with this list ends the node, and so do dbg:tp, dbg:tpl and dbg:tpe where the list is []\n"
 unfolding is_written_bare digits
 third_fires = refl
 

@@ -25,7 +25,7 @@ use Rattle.def_outlook.specs.Outlook.{RuntimeError, Outlook}
 use Rattle.def_explain.specs.Limits.{PassesLimit, limit_text, limit_said}
 use Rattle.def_session.specs.State.{live, Session}
 use Rattle.def_session.specs.Session.{effects_of, reported_for, event_reported}
-use Rattle.def_explain.specs.Reasons.{Reason, IsReason, reason_of}
+use Rattle.def_explain.specs.Reasons.{Reason, bound_within, IsReason, reason_of}
 use Rattle.def_explain.specs.Causes.{Cause, IsCause, cause_of}
 use Rattle.def_explain.specs.Verdicts.{Verdict, IsVerdict, verdict_of, outcome_by_verdicts}
 
@@ -79,6 +79,10 @@ MismatchIsComputed = (p : Pattern) (t : Tree) (m : Mismatch) → (mismatch_of p 
 -- an expression of a condition faults at a part of it exactly where it has no value
 abbrev pub FaultWhereNoValue : Type 0
 FaultWhereNoValue = (d : Dialect) (b : Bindings) (c : Context) (e : Expr) → ((x : Expr) × FaultsAt d b c e x) ↔ (value d in_condition b c e ≡ None)
+
+-- a condition has the same value with the bindings of the variables that stand in it alone
+abbrev pub ValueOfVariablesWithin : Type 0
+ValueOfVariablesWithin = (d : Dialect) (b : Bindings) (c : Context) (e : Expr) → value d in_condition (bound_within e b) c e ≡ value d in_condition b c e
 
 -- a session that is there has a cause for an event exactly where it reports nothing of it
 abbrev pub CauseWhereNothingTold : Type 0

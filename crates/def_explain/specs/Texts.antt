@@ -33,10 +33,14 @@ spec_test_flags d self_pid = with_flags_in (replicate PROCESSES no_flags) self_p
 
 -- ---- reasons
 
+-- a variable and the term that it is bound to
+abbrev pub bound_text : ℕ × Tree → List ℕ
+bound_text p = atom_text (36 ∷ decimal p.0) ++ codes " is " ++ w p.1
+
 -- what a head has at a place
 abbrev pub head_part_text : HeadPart → List ℕ
 head_part_text (is_term t) = w t ++ codes " expected"
-head_part_text (is_bound n t) = atom_text (36 ∷ decimal n) ++ codes " is " ++ w t
+head_part_text (is_bound n t) = bound_text (n, t)
 head_part_text (is_tuple_of n) = codes "a tuple of " ++ decimal n ++ codes " expected"
 head_part_text (is_list_of n) = codes "a list of " ++ decimal n ++ codes " expected"
 
@@ -50,9 +54,14 @@ head_reason_text no_list = codes "the head doesn't match"
 head_reason_text other_length = codes "the head has another number of elements"
 head_reason_text (after_matching n m) = codes "the head doesn't match at element " ++ decimal (suc n) ++ mismatch_text m
 
--- the value that a condition has, or the part of it that faults
+-- those of a condition, after its value: with a colon before the first and a comma before each other
+abbrev pub bound_texts : List ℕ → Bindings → List ℕ
+bound_texts between [] = []
+bound_texts between (p ∷ ps) = between ++ bound_text p ++ bound_texts (codes ", ") ps
+
+-- the value that a condition has, with its variables, or the part of it that faults
 abbrev pub condition_reason_text : ConditionReason → List ℕ
-condition_reason_text (has_value t) = codes " is " ++ w t
+condition_reason_text (has_value t bound) = codes " is " ++ w t ++ bound_texts (codes ": ") bound
 condition_reason_text (faults_at e) = codes " faults at " ++ w (spelling e)
 
 -- conditions are counted from 1

@@ -15,7 +15,7 @@
 ghost use Rattle.def_explain.specs.Laws.{ReasonWhereNotFired, ReasonIsOne, ReasonIsComputed};
 ghost use Rattle.def_explain.specs.Laws.{VerdictIsComputed, OutcomeIsByVerdicts};
 ghost use Rattle.def_explain.specs.Laws.{FunctionNameIsRead, ActionNameIsRead, StopIsComputed};
-ghost use Rattle.def_explain.specs.Laws.{HeadReasonWhereNotMatched, FaultWhereNoValue};
+ghost use Rattle.def_explain.specs.Laws.{HeadReasonWhereNotMatched, FaultWhereNoValue, ValueOfVariablesWithin};
 ghost use Rattle.def_explain.specs.Laws.{MismatchWhereNotMatched, MismatchIsOne, MismatchIsComputed};
 ghost use Rattle.def_explain.specs.Laws.{LinesTellTheMessage, LinesTellTheDifference};
 ghost use Rattle.def_explain.specs.Laws.{LimitIsSaid, OnlyLimitsAreSaid};
@@ -56,6 +56,11 @@ pub fn a_reading_stops_at_a_clause()
 pub fn a_name_is_read_as_what_it_names()
     ensures functions { FunctionNameIsRead }
     ensures actions { ActionNameIsRead }
+{}
+
+/// The variables that are said of a condition, with what they are bound to, are all that its value depends on.
+pub fn a_value_is_of_its_variables()
+    ensures { ValueOfVariablesWithin }
 {}
 
 /// A head has a reason exactly where it doesn't match.

@@ -20,6 +20,10 @@ condition_row : account_json (codes "4 0 e\n  s: clause 1: condition 2 is false\
 unfolding digits print_from escape_byte after_number
 condition_row = refl
 
+bound_row : text_json (codes "clause 1: condition 1 is ': ': '$1' is 3, '$2' is a\n") ≡ codes "{\"line\":1,\"text\":\"clause 1: condition 1 is ': ': '$1' is 3, '$2' is a\",\"clause\":1,\"fires\":false,\"condition\":1,\"value\":\"': '\",\"bound\":\"'$1' is 3, '$2' is a\"}\n"
+unfolding digits print_from escape_byte after_number
+bound_row = refl
+
 fault_row : text_json (codes "clause 4: condition 1 faults at {hd,'$1'}\n") ≡ codes "{\"line\":1,\"text\":\"clause 4: condition 1 faults at {hd,'$1'}\",\"clause\":4,\"fires\":false,\"condition\":1,\"faults_at\":\"{hd,'$1'}\"}\n"
 unfolding digits print_from escape_byte after_number
 fault_row = refl

@@ -1,5 +1,5 @@
 -- The rows of JSON are read back.
-use Rattle.std.proofs.Common.{◌≡◌, ℕ, suc, ◌+◌, ◌<◌, ◌≤◌, ◌^◌, ◌&&◌, Bool, true, false, if◌then◌else◌, List, [], ◌∷◌, All, length, map, drop, Option, Some, None, refl, arith}
+use Rattle.std.proofs.Common.{◌≡◌, ℕ, suc, ◌+◌, ◌<◌, ◌≤◌, ◌^◌, ◌&&◌, Bool, true, false, if◌then◌else◌, List, [], ◌∷◌, All, length, map, take, drop, Option, Some, None, refl, arith}
 use Rattle.std.proofs.lemmas.Bool.{and_parts}
 use Rattle.std.proofs.lemmas.List.Elements.{All-nil, All-cons, All-head, All-tail}
 use Rattle.std.specs.Prelude.{nat_eq, codes}
@@ -9,10 +9,10 @@ use Rattle.json.specs.Word.{after_number}
 use Rattle.json.specs.Tree.{depth, items_depth, members_depth, HasNumbers, ItemsHaveNumbers, MembersHaveNumbers}
 use Rattle.json.proofs.Printed.Trees.{document-print}
 use Rattle.json.proofs.Printed.Decimals.{IsNumber-decimal}
-use Rattle.def_formats.specs.Lines.{message_kind, message_pid, before_byte, past_byte}
+use Rattle.def_formats.specs.Lines.{message_kind, message_pid, before_byte, past_byte, value_length}
 use Rattle.def_formats.specs.Sections.{session_section, replies_section, journal_section}
 use Rattle.def_formats.specs.Summaries.{journal_picks}
-use Rattle.def_formats.specs.JsonRows.{are_ascii, text_value, number_value, is_whole, numeral_value, items_from, numbered_rows, message_row, reply_row, line_row, journal_row, account_rows, is_indented, move_row, made_row, members_from, front_number, past_number, past_place, value_members, condition_value, why_members, condition_members, fires_members, arrow_members, line_members, front_name, past_name}
+use Rattle.def_formats.specs.JsonRows.{are_ascii, text_value, number_value, is_whole, numeral_value, items_from, numbered_rows, message_row, reply_row, line_row, journal_row, account_rows, is_indented, move_row, made_row, members_from, front_number, past_number, past_place, value_and_bound, value_members, condition_value, why_members, condition_members, fires_members, arrow_members, line_members, front_name, past_name}
 use Rattle.def_formats.specs.RefusalRows.{refusal_number, noted_place, place_value}
 use Rattle.def_formats.specs.Laws.{IsReadBack, OutputRowsAreRead, AccountRowsAreRead, TextRowsAreRead, RefusalRowIsRead}
 
@@ -71,8 +71,13 @@ either : (b : Bool) (ms ns : List (List ℕ × Json)) → AreShallow 0 (members_
 either true ms ns h k = h
 either false ms ns h k = k
 
+value_and_bound_leaves : (text : List ℕ) → AreShallow 0 (members_from (value_and_bound text))
+value_and_bound_leaves text =
+    let rest = drop (value_length false false text) text in
+    (text_leaf (take (value_length false false text) text), either (starts_with nat_eq rest (codes ": ")) _ [] (text_leaf (drop 2 rest), tt) tt)
+
 value_leaves : (text : List ℕ) → AreShallow 0 (members_from (value_members text))
-value_leaves text = either (starts_with nat_eq text (codes " is ")) _ _ (text_leaf (drop 4 text), tt) (either (starts_with nat_eq text (codes " faults at ")) _ [] (text_leaf (drop 11 text), tt) tt)
+value_leaves text = either (starts_with nat_eq text (codes " is ")) _ _ (value_and_bound_leaves (drop 4 text)) (either (starts_with nat_eq text (codes " faults at ")) _ [] (text_leaf (drop 11 text), tt) tt)
 
 condition_leaves : (text : List ℕ) → AreShallow 0 (members_from (condition_members text))
 condition_leaves text = either (starts_with nat_eq text (codes ": condition ")) (condition_value (drop 12 text)) [] (numeral_leaf (front_number (drop 12 text)), value_leaves (past_number (drop 12 text))) tt

@@ -6,7 +6,7 @@ use Rattle.json.specs.Json.{Json, null, boolean, number, string, array, object, 
 use Rattle.json.specs.Word.{after_number}
 use Rattle.json.specs.Print.{print}
 use Rattle.json.specs.Tree.{json_tokens}
-use Rattle.def_formats.specs.Lines.{text_lines, message_pid, message_kind, before_byte, past_byte, atom_length}
+use Rattle.def_formats.specs.Lines.{text_lines, message_pid, message_kind, before_byte, past_byte, atom_length, value_length}
 use Rattle.def_formats.specs.Sections.{by_sections, Section, section_of, session_section, replies_section, journal_section}
 use Rattle.def_formats.specs.Summaries.{journal_picks}
 
@@ -105,10 +105,18 @@ past_number text = drop (position_or_len ends_number text) text
 abbrev pub effects_members : List ℕ → List (List ℕ × Json)
 effects_members text = if starts_with nat_eq text (codes ": ") then (codes "effects", text_value (drop 2 text)) ∷ [] else []
 
+-- what the variables of a condition are bound to, where it has some: after a colon
+abbrev pub bound_members : List ℕ → List (List ℕ × Json)
+bound_members text = if starts_with nat_eq text (codes ": ") then (codes "bound", text_value (drop 2 text)) ∷ [] else []
+
+-- the value of a condition up to the first colon outside of quotes, and its variables
+abbrev pub value_and_bound : List ℕ → List (List ℕ × Json)
+value_and_bound text = (codes "value", text_value (take (value_length false false text) text)) ∷ bound_members (drop (value_length false false text) text)
+
 -- the value of a condition, or the part of it that has none
 abbrev pub value_members : List ℕ → List (List ℕ × Json)
 value_members text =
-    if starts_with nat_eq text (codes " is ") then (codes "value", text_value (drop 4 text)) ∷ []
+    if starts_with nat_eq text (codes " is ") then value_and_bound (drop 4 text)
     else (if starts_with nat_eq text (codes " faults at ") then (codes "faults_at", text_value (drop 11 text)) ∷ [] else [])
 
 -- the number of a condition, and its value

@@ -49,3 +49,9 @@ quoted_length escapes (c ∷ cs) = if not escapes && (c == 39) then 1 else suc (
 abbrev pub atom_length : List ℕ → ℕ
 atom_length [] = 0
 atom_length (c ∷ cs) = if c == 39 then suc (quoted_length false cs) else prefix_len is_name_byte (c ∷ cs)
+
+-- the length of what is before the first colon outside of quotes
+abbrev pub value_length : (is_quoted escapes : Bool) → List ℕ → ℕ
+value_length is_quoted escapes [] = 0
+value_length is_quoted escapes (c ∷ cs) =
+    if not is_quoted && (c == 58) then 0 else suc (value_length (if not escapes && (c == 39) then not is_quoted else is_quoted) (is_quoted && (not escapes && (c == 92))) cs)

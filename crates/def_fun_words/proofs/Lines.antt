@@ -7,12 +7,12 @@ use Rattle.def_spec.specs.Expressions.{Dialect, Context, Effect}
 use Rattle.def_spec.specs.Outcome.{Clause}
 use Rattle.def_explain.specs.Mismatches.{is_term, is_bound, is_tuple_of, is_list_of, mismatch}
 use Rattle.def_explain.specs.Heads.{HeadReason, no_list, other_length, after_matching}
-use Rattle.def_explain.specs.Reasons.{Reason, by_head, by_condition}
+use Rattle.def_explain.specs.Reasons.{ConditionReason, has_value, faults_at, Reason, by_head, by_condition}
 use Rattle.def_explain.specs.ReasonTexts.{found_text}
 use Rattle.def_explain.specs.Verdicts.{Verdict, fails, fires, verdict_of}
 use Rattle.def_explain.specs.Differences.{Difference, on_node}
-use Rattle.def_explain.specs.Texts.{head_reason_text, reason_text, condition_reason_text, binding_line, clause_text, effects_text, end_text, difference_line, fires_differences, fires_text, verdict_text, spec_test_text_after}
-use Rattle.def_fun_words.specs.WordTexts.{TestLine, line_parts_text, line_in, test_line_text, head_parts, reason_parts, failed_line, fired_clause_line, bound_line, plain_line, lines_of_message, fires_lines, verdict_lines, test_lines_after, fun_test_text}
+use Rattle.def_explain.specs.Texts.{bound_text, bound_texts, head_reason_text, reason_text, condition_reason_text, binding_line, clause_text, effects_text, end_text, difference_line, fires_differences, fires_text, verdict_text, spec_test_text_after}
+use Rattle.def_fun_words.specs.WordTexts.{TestLine, line_parts_text, line_in, test_line_text, head_parts, bound_parts, condition_parts, reason_parts, failed_line, fired_clause_line, bound_line, plain_line, lines_of_message, fires_lines, verdict_lines, test_lines_after, fun_test_text}
 
 -- ---- reasons
 
@@ -29,9 +29,22 @@ head_said (after_matching n (mismatch place (is_bound k t) v)) =
 head_said (after_matching n (mismatch place (is_tuple_of m) v)) = append-nil (head_reason_text (after_matching n (mismatch place (is_tuple_of m) v)))
 head_said (after_matching n (mismatch place (is_list_of m) v)) = append-nil (head_reason_text (after_matching n (mismatch place (is_list_of m) v)))
 
+several_pieces : (between name is value rest : List ℕ) → between ++ (name ++ ((is ++ value) ++ rest)) ≡ (between ++ ((name ++ is) ++ value)) ++ rest
+several_pieces between name is value rest = simp append_assoc
+
+several_bound_said : (between : List ℕ) (b : Bindings) → line_parts_text None (bound_parts between b) ≡ bound_texts between b
+several_bound_said between [] = refl
+several_bound_said between (p ∷ ps) =
+    several_pieces between (atom_text (36 ∷ decimal p.0)) (codes " is ") (w p.1) (line_parts_text None (bound_parts (codes ", ") ps))
+    ∙ ap (λ s. (between ++ bound_text p) ++ s) (several_bound_said (codes ", ") ps)
+
+condition_said : (r : ConditionReason) → line_parts_text None (condition_parts r) ≡ condition_reason_text r
+condition_said (has_value t bound) = ap (λ s. (codes " is " ++ w t) ++ s) (several_bound_said (codes ": ") bound)
+condition_said (faults_at e) = append-nil (condition_reason_text (faults_at e))
+
 pub reason_said : (r : Reason) → line_parts_text None (reason_parts r) ≡ reason_text r
 reason_said (by_head h) = head_said h
-reason_said (by_condition k r) = ap (λ s. (codes "condition " ++ decimal (suc k)) ++ s) (append-nil (condition_reason_text r))
+reason_said (by_condition k r) = ap (λ s. (codes "condition " ++ decimal (suc k)) ++ s) (condition_said r)
 
 -- ---- lines
 

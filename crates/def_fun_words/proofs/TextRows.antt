@@ -36,13 +36,13 @@ answer fun ts = read (codes fun) ts (spec_of_text for_calls (codes fun))
 abbrev lines : List String → List ℕ
 lines ls = flat_map (λ l. codes l ++ 10 ∷ []) ls
 
-pub a_guard_is_false : answer "fun([X]) when X > 3 -> message(X) end" (number 1 ∷ []) ≡ lines ("clause 1 (line 1): guard X > 3 is false" ∷ "=> no message: no clause fires" ∷ [])
+pub a_guard_is_false : answer "fun([X]) when X > 3 -> message(X) end" (number 1 ∷ []) ≡ lines ("clause 1 (line 1): guard X > 3 is false: X is 1" ∷ "=> no message: no clause fires" ∷ [])
 unfolding is_written_bare digits
 a_guard_is_false = refl
 
 -- the second guard is another clause, of the same line; its name and its value
 pub another_guard_fires : answer "fun([X,_]) when X == 1; X  > % 2\n 3 ->\n message(X);\n(_) -> true end" (number 7 ∷ number 8 ∷ [])
-    ≡ lines ("clause 1 (line 1): guard X == 1 is false" ∷ "clause 2 (line 1) fires: message 7" ∷ "  X is 7" ∷ "=> a message that ends in 7" ∷ [])
+    ≡ lines ("clause 1 (line 1): guard X == 1 is false: X is 7" ∷ "clause 2 (line 1) fires: message 7" ∷ "  X is 7" ∷ "=> a message that ends in 7" ∷ [])
 unfolding is_written_bare digits
 another_guard_fires = refl
 
@@ -54,6 +54,6 @@ unfolding is_written_bare digits
 heads_and_faults = refl
 
 -- the second condition of a guard
-pub second_condition : answer "fun([X]) when true, X + 1 -> X end" (number 1 ∷ []) ≡ lines ("clause 1 (line 1): guard X + 1 is 2" ∷ "=> no message: no clause fires" ∷ [])
+pub second_condition : answer "fun([X]) when true, X + 1 -> X end" (number 1 ∷ []) ≡ lines ("clause 1 (line 1): guard X + 1 is 2: X is 1" ∷ "=> no message: no clause fires" ∷ [])
 unfolding is_written_bare digits
 second_condition = refl

@@ -9,7 +9,7 @@ use Rattle.def_spec.specs.Expressions.{Dialect, Context, Effect}
 use Rattle.def_spec.specs.Outcome.{Clause}
 use Rattle.def_explain.specs.Mismatches.{is_bound, mismatch}
 use Rattle.def_explain.specs.Heads.{HeadReason, after_matching}
-use Rattle.def_explain.specs.Reasons.{Reason, by_head, by_condition}
+use Rattle.def_explain.specs.Reasons.{ConditionReason, has_value, faults_at, Reason, by_head, by_condition}
 use Rattle.def_explain.specs.ReasonTexts.{found_text}
 use Rattle.def_explain.specs.Verdicts.{Verdict, fails, fires, verdict_of}
 use Rattle.def_explain.specs.Differences.{on_node}
@@ -90,10 +90,20 @@ head_parts (after_matching n (mismatch place (is_bound k t) v)) =
     ∷ numbered k ∷ plain (codes " is " ++ w t ++ found_text v) ∷ []
 head_parts h = plain (head_reason_text h) ∷ []
 
+-- the variables of a condition with what they are bound to: a colon before the first and a comma before each other
+abbrev pub bound_parts : List ℕ → Bindings → List LinePart
+bound_parts between [] = []
+bound_parts between (p ∷ ps) = plain between ∷ numbered p.0 ∷ plain (codes " is " ++ w p.1) ∷ bound_parts (codes ", ") ps
+
+-- the value of a condition, with its variables, or the part of it that faults
+abbrev pub condition_parts : ConditionReason → List LinePart
+condition_parts (has_value t bound) = plain (codes " is " ++ w t) ∷ bound_parts (codes ": ") bound
+condition_parts (faults_at e) = plain (condition_reason_text (faults_at e)) ∷ []
+
 -- why a clause doesn't fire
 abbrev pub reason_parts : Reason → List LinePart
 reason_parts (by_head h) = head_parts h
-reason_parts (by_condition k r) = condition_after k ∷ plain (condition_reason_text r) ∷ []
+reason_parts (by_condition k r) = condition_after k ∷ condition_parts r
 
 -- the line of a clause that doesn't
 abbrev pub failed_line : ℕ → Reason → TestLine

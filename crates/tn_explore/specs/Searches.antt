@@ -1,6 +1,6 @@
 -- What a search has answered, and what it has tried.
 -- Depends on the states of a search.
-use Rattle.std.specs.Prelude.{◌≡◌, ◌<◌, ◌≤◌, ◌+◌, ◌⊎◌, ℕ, Bool, false, List, [], ◌∷◌, ◌++◌, length, min, IsTrue, map, All}
+use Rattle.std.specs.Prelude.{◌≡◌, ◌↔◌, ◌<◌, ◌≤◌, ◌+◌, ◌⊎◌, ℕ, Bool, true, false, not, List, [], ◌∷◌, ◌++◌, length, min, IsTrue, map, All}
 use Rattle.std.specs.declared.vec.Vec.{Vec}
 use Rattle.std.below.core.specs.declared.int.usize.TheConstants.{MAX}
 use Rattle.def_run.specs.Run.{JOURNAL}
@@ -94,9 +94,19 @@ pub record TriesLayer {S : Type 0} (Journal : S → List ℕ) (IsOf : S → Quer
   pub all : IsTrue complete → done ≡ tried ++ map Journal ss
   pub stops : complete ≡ false → room ≤ length new
 
--- a layer without states, or with journals that have room for a pick more
-abbrev pub LayerHasRoom : {S : Type 0} → (S → List ℕ) → (S → Query → Type 0) → Query → List S → Type 0
-LayerHasRoom Journal IsOf a ss = (depth : ℕ) → AreAt Journal IsOf a depth ss → (ss ≡ []) ⊎ (depth < JOURNAL)
+-- whether the journal of the first state has room for a pick more: all journals of a layer are as long. A layer without states has room
+abbrev pub HasLayerRoom : {S : Type 0} → (S → List ℕ) → List S → Bool → Type 0
+HasLayerRoom Journal [] b = b ≡ true
+HasLayerRoom Journal (s ∷ ss) b = IsTrue b ↔ (length (Journal s) < JOURNAL)
+
+-- whether picks are left out, and it has no room
+abbrev pub IsLayerFull : {S : Type 0} → Bool → (S → List ℕ) → List S → Bool → Type 0
+IsLayerFull false Journal ss b = b ≡ false
+IsLayerFull true Journal ss b = HasLayerRoom Journal ss (not b)
+
+-- a run that is followed has a journal without room for a pick more
+abbrev pub MeetsFullJournal : Query → Type 0
+MeetsFullJournal a = (journal : List ℕ) × JournalFor a journal × (JOURNAL ≤ length journal)
 
 -- so many journals go on from the first picks and are followed, or more than are counted; where all were tried and no picks are left out, they have all states
 pub record CountsStates (left : Bool) (a : Query) (states : ℕ) (complete : Bool) : Type 0 where

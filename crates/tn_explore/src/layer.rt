@@ -22,9 +22,9 @@ pub struct Layer<A: Allocator, S> {
 }
 
 impl<A: Allocator + Copy, S: SearchState<A>> Layer<A, S> {
-    ghost use Rattle.std.specs.Prelude.{[], ◌∷◌, ◌++◌, IsTrue};
+    ghost use Rattle.std.specs.Prelude.{[], ◌∷◌, ◌++◌};
     ghost use Rattle.tn_explore.specs.Query.{Query};
-    ghost use Rattle.tn_explore.specs.Searches.{IsAt, AreAt, HasSame, AddsState, LayerHasRoom};
+    ghost use Rattle.tn_explore.specs.Searches.{IsAt, AreAt, HasSame, AddsState, HasLayerRoom};
 
     /// No state.
     pub fn new(alloc: A) -> Layer<A, S>
@@ -66,8 +66,7 @@ impl<A: Allocator + Copy, S: SearchState<A>> Layer<A, S> {
 
     /// Whether the journals of its states have room for a pick more.
     pub fn has_room(&self) -> Result<bool, AllocError>
-        ensures { IfOk result (λ b. (x : S.Context) (a : Query) →
-            IsTrue b → LayerHasRoom S.journal (S.is_of x) a self.now.states.items) }
+        ensures { IfOk result (HasLayerRoom S.journal self.now.states.items) }
     {
         let Some(state) = self.states.first() else {
             return Ok(true);

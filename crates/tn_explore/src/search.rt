@@ -5,7 +5,7 @@ ghost use Rattle.def_run.specs.Run.{moves};
 ghost use Rattle.tn_explore.specs.Query.{Query, AdmitsFor};
 ghost use Rattle.tn_explore.specs.SearchStates.{FollowsAllBy};
 ghost use Rattle.tn_explore.specs.Searches.{IsAt, AreAt, Tries, TriesState, TriesLayer, HaveTried, AnswersEnd};
-ghost use Rattle.tn_explore.specs.Searches.{LayerHasRoom, Explores, answer_entries};
+ghost use Rattle.tn_explore.specs.Searches.{IsLayerFull, Explores, MeetsFullJournal, answer_entries};
 
 use crate::layer::Layer;
 use crate::search_state::SearchState;
@@ -124,14 +124,12 @@ fn try_layer<A: Allocator + Copy, S: SearchState<A>>(
     Ok(true)
 }
 
-/// Whether picks are left out, and a journal of the layer may have no room for one more.
+/// Whether picks are left out, and the journals of the layer have no room for one more.
 fn is_full<A: Allocator + Copy, S: SearchState<A>>(
     layer: &Layer<A, S>,
     leaves_out: bool,
 ) -> Result<bool, AllocError>
-    ensures left { IfOk result (λ b. IsTrue b → leaves_out ≡ true) }
-    ensures room { IfOk result (λ b. (x : S.Context) (a : Query) → b ≡ false → leaves_out ≡ true →
-        LayerHasRoom S.journal (S.is_of x) a layer.now.states.items) }
+    ensures { IfOk result (IsLayerFull leaves_out S.journal layer.now.states.items) }
 {
     if !leaves_out {
         return Ok(false);
@@ -164,8 +162,8 @@ pub struct Exploration<A: Allocator, M: Eq + Hash> {
 }
 
 /// Tries all states from the first on, until so many were met. A run that is not admitted ends there. None where picks
-/// are left out and a journal may have no room for a pick more: the search that leaves out none answers then. An error
-/// is refused memory.
+/// are left out and a run meets a journal that has no room for a pick more: the search that leaves out none answers
+/// then. An error is refused memory.
 pub fn explore<A: Allocator + Copy, S: SearchState<A>>(
     alloc: A,
     context: &S::Context,
@@ -180,6 +178,11 @@ pub fn explore<A: Allocator + Copy, S: SearchState<A>>(
         Explores choice.now.leaves_out a (answer_entries S.kept_seen e.answers.entries) max_states
         e.states e.is_complete)) }
     ensures none { IfOk result (λ o. IfNone o (choice.now.leaves_out ≡ true)) }
+    ensures full { IfOk result (λ o. IfNone o ((a : Query) →
+        S.is_of context.now first a → S.filters choice.now.filter.now a →
+        FollowsAllBy choice.now.leaves_out a →
+        S.journal first ≡ moves a.program a.before →
+        MeetsFullJournal a)) }
 {
     let mut layer = Layer::new(alloc);
     layer.add(first)?;

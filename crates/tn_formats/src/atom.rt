@@ -2,7 +2,7 @@
 ghost use Rattle.std.specs.Prelude.{◌≡◌, ◌≤◌, ◌+◌, ◌==◌, ◌&&◌, not, false, length, take, drop};
 ghost use Rattle.std.specs.List.{prefix_len};
 ghost use Rattle.def_term.specs.Text.{is_name_byte};
-ghost use Rattle.def_formats.specs.Lines.{atom_length, quoted_length};
+ghost use Rattle.def_formats.specs.Lines.{atom_length, quoted_length, value_length};
 ghost use Rattle.def_formats.specs.Sections.{section_of};
 ghost use Rattle.tn_formats.specs.Values.{section_seen};
 
@@ -26,6 +26,24 @@ fn quoted_length(text: &[u8]) -> usize
             return i + 1;
         }
         escapes = is_unescaped(escapes, *byte, b'\\');
+    }
+    text.len()
+}
+
+/// The length of what is before the first colon outside of quotes.
+pub(crate) fn value_length(text: &[u8]) -> usize
+    ensures value { result ≡ value_length false false text.now }
+    ensures within { result ≤ length text.now }
+{
+    let mut is_quoted = false;
+    let mut escapes = false;
+    for (i, byte) in text.iter().enumerate() {
+        if !is_quoted && *byte == b':' {
+            return i;
+        }
+        let is_quote = is_unescaped(escapes, *byte, b'\'');
+        escapes = is_quoted && is_unescaped(escapes, *byte, b'\\');
+        is_quoted = if is_quote { !is_quoted } else { is_quoted };
     }
     text.len()
 }

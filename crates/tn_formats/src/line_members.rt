@@ -2,11 +2,13 @@
 ghost use Rattle.std.specs.Prelude.{◌≡◌};
 ghost use Rattle.std.specs.List.{position};
 ghost use Rattle.def_formats.specs.JsonRows.{ends_number, front_number, past_number, past_place};
-ghost use Rattle.def_formats.specs.JsonRows.{effects_members, value_members, condition_value, condition_members};
+ghost use Rattle.def_formats.specs.JsonRows.{effects_members, bound_members, value_and_bound, value_members};
+ghost use Rattle.def_formats.specs.JsonRows.{condition_value, condition_members};
 ghost use Rattle.def_formats.specs.JsonRows.{fires_members, clause_members, why_members, arrow_members};
 ghost use Rattle.def_formats.specs.JsonRows.{node_members, line_members};
 ghost use Rattle.tn_formats.specs.Tokens.{AddsTokens, tokens_of_members};
 
+use crate::atom::value_length;
 use crate::parts::{cut_at, without_front};
 use crate::values::{put_boolean_member, put_null_member, put_numeral_member, put_text_member};
 use json::Writer;
@@ -40,12 +42,31 @@ fn put_effects<A: Allocator>(writer: &mut Writer<A>, text: &[u8]) -> Result<(), 
     Ok(())
 }
 
+/// Writes what the variables of a condition are bound to, where it has some.
+fn put_bound<A: Allocator>(writer: &mut Writer<A>, text: &[u8]) -> Result<(), AllocError>
+    ensures { AddsTokens result writer.old writer.new (tokens_of_members (bound_members text.now)) }
+{
+    if text.starts_with(b": ") {
+        return put_text_member(writer, "bound", without_front(text, 2));
+    }
+    Ok(())
+}
+
+/// Writes the value of a condition, and what its variables are bound to.
+fn put_value_and_bound<A: Allocator>(writer: &mut Writer<A>, text: &[u8]) -> Result<(), AllocError>
+    ensures { AddsTokens result writer.old writer.new (tokens_of_members (value_and_bound text.now)) }
+{
+    let end = value_length(text);
+    put_text_member(writer, "value", &text[..end])?;
+    put_bound(writer, &text[end..])
+}
+
 /// Writes the value of a condition, or the part of it that has none.
 fn put_value<A: Allocator>(writer: &mut Writer<A>, text: &[u8]) -> Result<(), AllocError>
     ensures { AddsTokens result writer.old writer.new (tokens_of_members (value_members text.now)) }
 {
     if text.starts_with(b" is ") {
-        return put_text_member(writer, "value", without_front(text, 4));
+        return put_value_and_bound(writer, without_front(text, 4));
     }
     if text.starts_with(b" faults at ") {
         return put_text_member(writer, "faults_at", without_front(text, 11));

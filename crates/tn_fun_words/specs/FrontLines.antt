@@ -18,6 +18,11 @@ use Rattle.tn_action.specs.declared.context.Context as code
 abbrev pub named_line : List Name → ℕ × Tree → List ℕ
 named_line ns b = codes "  " ++ variable_words (name_numbered ns b.0) b.0 ++ (codes " is " ++ w b.1) ++ 10 ∷ []
 
+-- the variables of a condition, by their names
+abbrev pub named_bound : List Name → List ℕ → Bindings → List ℕ
+named_bound ns between [] = []
+named_bound ns between (p ∷ ps) = between ++ variable_words (name_numbered ns p.0) p.0 ++ codes " is " ++ w p.1 ++ named_bound ns (codes ", ") ps
+
 -- the lines of a clause that fires, up to the message
 abbrev pub fired_lines_text : Option ClauseWords → ℕ → Bindings → List Effect → List ℕ
 fired_lines_text ws n b es = line_in ws (fired_clause_line n es) ++ flat_map (λ e. line_in ws (bound_line n e)) b

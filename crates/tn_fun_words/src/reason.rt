@@ -1,22 +1,28 @@
 // Why a clause doesn't fire, in the words of a fun.
-ghost use Rattle.std.specs.Prelude.{◌≡◌, ◌++◌, ℕ, List, suc, OnOk, codes, decimal, flat_map};
+ghost use Rattle.std.specs.Prelude.{◌≡◌, ◌++◌, ℕ, List, [], ◌∷◌, suc, OnOk, codes, decimal, flat_map, map};
 ghost use Rattle.std.specs.Option.{option_map};
-ghost use Rattle.def_fun_words.specs.WordTexts.{line_parts_text, head_parts, reason_parts};
+ghost use Rattle.def_fun_words.specs.WordTexts.{line_parts_text, head_parts, condition_parts, reason_parts};
 ghost use Rattle.def_explain.specs.Heads.{after_matching};
-ghost use Rattle.def_explain.specs.Reasons.{by_condition};
-ghost use Rattle.def_explain.specs.Texts.{head_reason_text};
+ghost use Rattle.def_explain.specs.Reasons.{bound_within, has_value, by_condition};
+ghost use Rattle.def_explain.specs.Texts.{head_reason_text, condition_reason_text};
+ghost use Rattle.tn_guard.specs.Views.{value_seen};
+ghost use Rattle.tn_head.specs.Views.{binding_seen};
+ghost use Rattle.tn_spec.specs.Views.{expr_seen};
 ghost use Rattle.tn_mismatch.specs.Views.{mismatch_seen};
-ghost use Rattle.tn_verdict.specs.Views.{condition_seen, head_reason_seen, reason_seen};
+ghost use Rattle.tn_verdict.specs.Views.{bound_seen, condition_seen, head_reason_seen, reason_seen};
 ghost use Rattle.tn_verdict.specs.MismatchTexts.{level_text};
-ghost use Rattle.tn_fun_words.specs.Views.{clause_words_seen};
+ghost use Rattle.tn_fun_words.specs.FrontLines.{named_bound};
+ghost use Rattle.tn_fun_words.specs.Views.{clause_words_seen, name_list_seen};
 
 use crate::numbers::{numbered_names, put_condition_words, put_name, put_plain_condition};
 use crate::words::ClauseWords;
 use std::alloc::{AllocError, Allocator};
-use tn_guard::write_value;
+use tn_guard::{Value, write_value};
+use tn_head::{Binding, Bindings};
 use tn_mismatch::{HeadPart, Mismatch};
+use tn_spec::Expr;
 use tn_text::write_next;
-use tn_verdict::{ConditionReason, HeadReason, Reason, put_reason};
+use tn_verdict::{BoundWithin, ConditionReason, HeadReason, Reason, put_reason, stands_in};
 
 /// The bytes after those at the front.
 pub fn after_front<'a>(whole: &'a [u8], front: &[u8]) -> &'a [u8]
@@ -122,6 +128,98 @@ fn put_head_reason<A: Allocator + Copy, B: Allocator>(
     }
 }
 
+/// Appends the name of a variable and the value that it is bound to, after these bytes.
+fn put_bound<A: Allocator, B: Allocator>(
+    names: &Vec<Vec<u8, A>, A>,
+    between: &[u8],
+    binding: Binding<'_, A>,
+    out: &mut Vec<u8, B>,
+) -> Result<(), AllocError>
+    ensures { OnOk result (out.new.items ≡ out.old.items
+        ++ named_bound (name_list_seen names.now.items) between.now (binding_seen binding.entry ∷ [])) }
+{
+    out.extend_from_slice(between)?;
+    put_name(names, binding.number, out)?;
+    out.extend_from_slice(b" is ")?;
+    Ok(write_value(binding.value, out)?)
+}
+
+/// Appends those of the bindings whose variables stand in a condition.
+fn put_each_within<A: Allocator, B: Allocator>(
+    names: &Vec<Vec<u8, A>, A>,
+    condition: &Expr<A>,
+    bindings: &[Binding<'_, A>],
+    out: &mut Vec<u8, B>,
+) -> Result<(), AllocError>
+    ensures { OnOk result (out.new.items ≡ out.old.items ++ named_bound (name_list_seen names.now.items) (codes ": ")
+        (bound_within (expr_seen condition.now) (map binding_seen bindings.now))) }
+{
+    let mut between = b": ".as_slice();
+    for binding in bindings {
+        if stands_in(binding.number, condition) {
+            put_bound(names, between, *binding, out)?;
+            between = b", ".as_slice();
+        }
+    }
+    Ok(())
+}
+
+/// Appends the variables of a condition.
+fn put_bound_within<A: Allocator + Copy, B: Allocator>(
+    names: &Vec<Vec<u8, A>, A>,
+    bound: BoundWithin<'_, A>,
+    out: &mut Vec<u8, B>,
+) -> Result<(), AllocError>
+    ensures { OnOk result (out.new.items ≡ out.old.items
+        ++ named_bound (name_list_seen names.now.items) (codes ": ") (bound_seen bound.entry)) }
+{
+    match bound.bindings {
+        Bindings::Whole(number, elements) => {
+            let binding = Binding {
+                number: *number,
+                value: elements.list(),
+            };
+            put_each_within(names, bound.condition, &[binding], out)
+        }
+        Bindings::Each(bindings) => {
+            put_each_within(names, bound.condition, bindings.as_slice(), out)
+        }
+    }
+}
+
+/// Appends that a condition has this value, with its variables.
+fn put_value<A: Allocator + Copy, B: Allocator>(
+    alloc: A,
+    words: Option<ClauseWords<'_, '_, A>>,
+    value: Value<'_, A>,
+    bound: BoundWithin<'_, A>,
+    out: &mut Vec<u8, B>,
+) -> Result<(), AllocError>
+    ensures { OnOk result (out.new.items ≡ out.old.items ++ line_parts_text (option_map clause_words_seen words.entry)
+        (condition_parts (has_value (value_seen value.entry) (bound_seen bound.entry)))) }
+{
+    let names = numbered_names(alloc, words)?;
+    out.extend_from_slice(b" is ")?;
+    write_value(value, out)?;
+    put_bound_within(&names, bound, out)
+}
+
+/// Appends at which part a condition faults, in the words of the specification.
+fn put_fault<A: Allocator + Copy, B: Allocator>(
+    alloc: A,
+    index: usize,
+    why: ConditionReason<'_, A>,
+    out: &mut Vec<u8, B>,
+) -> Result<(), AllocError>
+    ensures { OnOk result (out.new.items ≡ out.old.items ++ condition_reason_text (condition_seen why.entry)) }
+{
+    let mut front = Vec::new(alloc);
+    put_plain_condition(index, &mut front)?;
+    let mut whole = Vec::new(alloc);
+    put_reason(Reason::ByCondition { index, why }, &mut whole)?;
+    out.extend_from_slice(after_front(&whole, &front))
+}
+
 /// Appends which condition isn't `true`, and why.
 fn put_condition_reason<A: Allocator + Copy, B: Allocator>(
     alloc: A,
@@ -134,11 +232,10 @@ fn put_condition_reason<A: Allocator + Copy, B: Allocator>(
         (reason_parts (by_condition index (condition_seen why.entry)))) }
 {
     put_condition_words(words, index, out)?;
-    let mut front = Vec::new(alloc);
-    put_plain_condition(index, &mut front)?;
-    let mut whole = Vec::new(alloc);
-    put_reason(Reason::ByCondition { index, why }, &mut whole)?;
-    out.extend_from_slice(after_front(&whole, &front))
+    match why {
+        ConditionReason::HasValue { value, bound } => put_value(alloc, words, value, bound, out),
+        ConditionReason::FaultsAt(_) => put_fault(alloc, index, why, out),
+    }
 }
 
 /// Appends why a clause doesn't fire.

@@ -1,5 +1,6 @@
 mod Sights
 mod Exceptions
+mod SameMessages
 mod Filters
 mod LineLoops
 mod CommonLines
@@ -9,6 +10,7 @@ mod Runs
 mod Pairs
 mod PairLoops
 mod OwnLinks
+mod FiringClauses
 mod OpenClauses
 mod CallSettings
 mod Phases

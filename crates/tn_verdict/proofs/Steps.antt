@@ -10,7 +10,7 @@ use Rattle.def_spec.specs.Expressions.{Exprs, and_expr}
 use Rattle.def_spec.specs.Outcome.{Clause, matched_term}
 use Rattle.def_explain.specs.Mismatches.{mismatch_of}
 use Rattle.def_explain.specs.Heads.{HeadReason, of_mismatch, head_reason}
-use Rattle.def_explain.specs.Reasons.{Reason, by_head, by_condition, has_value, untrue_by, untrue_in, as_reason, reason_by}
+use Rattle.def_explain.specs.Reasons.{Reason, by_head, by_condition, has_value, bound_within, untrue_by, untrue_in, as_reason, reason_by}
 use Rattle.def_explain.specs.Values.{function_value, or_itself, or_after, after_true, after_other, fault_in, fault_in_one, fault_while_true, fault_until_true}
 use Rattle.def_explain.specs.Verdicts.{fails, fires_with, verdict_of}
 use Rattle.def_spec.proofs.Conditions.{of-bound, of-call, of-action}
@@ -117,15 +117,15 @@ module _ (d : ex.Dialect) (b : Bindings) (c : ex.Context) where
   untrue-goes-on n m es rest e t total next is at holds h =
       let more : m ≡ suc n = omega (arith, next) in
       ap (λ k. untrue_in d b c k rest) more
-      ∙ sym (ap (untrue_in d b c n) is ∙ ap (λ v. untrue_by n v (fault_in d b c e) (untrue_in d b c (suc n) rest)) at ∙ ap (λ z. if z then untrue_in d b c (suc n) rest else Some (by_condition n (has_value t))) holds) ∙ h
+      ∙ sym (ap (untrue_in d b c n) is ∙ ap (λ v. untrue_by n (bound_within e b) v (fault_in d b c e) (untrue_in d b c (suc n) rest)) at ∙ ap (λ z. if z then untrue_in d b c (suc n) rest else Some (by_condition n (has_value t (bound_within e b)))) holds) ∙ h
 
-  pub untrue-has-value : (n : ℕ) (es rest : Exprs) (e : ex.Expr) (t : Tree) (total : Option Reason) → es ≡ and_expr e rest → ex.value d ex.in_condition b c e ≡ Some t → is_true t ≡ false → untrue_in d b c n es ≡ total → Some (by_condition n (has_value t)) ≡ total
+  pub untrue-has-value : (n : ℕ) (es rest : Exprs) (e : ex.Expr) (t : Tree) (total : Option Reason) → es ≡ and_expr e rest → ex.value d ex.in_condition b c e ≡ Some t → is_true t ≡ false → untrue_in d b c n es ≡ total → Some (by_condition n (has_value t (bound_within e b))) ≡ total
   untrue-has-value n es rest e t total is at other h =
-      sym (ap (untrue_in d b c n) is ∙ ap (λ v. untrue_by n v (fault_in d b c e) (untrue_in d b c (suc n) rest)) at ∙ ap (λ z. if z then untrue_in d b c (suc n) rest else Some (by_condition n (has_value t))) other) ∙ h
+      sym (ap (untrue_in d b c n) is ∙ ap (λ v. untrue_by n (bound_within e b) v (fault_in d b c e) (untrue_in d b c (suc n) rest)) at ∙ ap (λ z. if z then untrue_in d b c (suc n) rest else Some (by_condition n (has_value t (bound_within e b)))) other) ∙ h
 
-  pub untrue-faults : (n : ℕ) (es rest : Exprs) (e : ex.Expr) (f : Option ex.Expr) (total : Option Reason) → es ≡ and_expr e rest → ex.value d ex.in_condition b c e ≡ None → fault_in d b c e ≡ f → untrue_in d b c n es ≡ total → untrue_by n None f (untrue_in d b c (suc n) rest) ≡ total
+  pub untrue-faults : (n : ℕ) (es rest : Exprs) (e : ex.Expr) (f : Option ex.Expr) (total : Option Reason) → es ≡ and_expr e rest → ex.value d ex.in_condition b c e ≡ None → fault_in d b c e ≡ f → untrue_in d b c n es ≡ total → untrue_by n (bound_within e b) None f (untrue_in d b c (suc n) rest) ≡ total
   untrue-faults n es rest e f total is at fault h =
-      sym (ap (untrue_in d b c n) is ∙ ap (λ v. untrue_by n v (fault_in d b c e) (untrue_in d b c (suc n) rest)) at ∙ ap (λ x. untrue_by n None x (untrue_in d b c (suc n) rest)) fault) ∙ h
+      sym (ap (untrue_in d b c n) is ∙ ap (λ v. untrue_by n (bound_within e b) v (fault_in d b c e) (untrue_in d b c (suc n) rest)) at ∙ ap (λ x. untrue_by n (bound_within e b) None x (untrue_in d b c (suc n) rest)) fault) ∙ h
 
 -- ---- verdicts
 

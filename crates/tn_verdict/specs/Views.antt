@@ -3,6 +3,7 @@ use Rattle.std.specs.Prelude.{Option, map}
 use Rattle.std.specs.Option.{option_map}
 use Rattle.std.specs.Borrow.{Bor}
 use Rattle.std.specs.declared.alloc.Allocator.{Ghosts}
+use Rattle.def_spec.specs.Matching.{Bindings}
 use Rattle.def_spec.specs.Expressions as ex
 use Rattle.def_explain.specs.Heads as heads
 use Rattle.def_explain.specs.Reasons as reasons
@@ -15,6 +16,7 @@ use Rattle.tn_spec.specs.declared.expr.Expr.{Expr}
 use Rattle.tn_action.specs.Views.{effect_seen}
 use Rattle.tn_verdict.specs.declared.reason.HeadReason.{HeadReason}
 use Rattle.tn_verdict.specs.declared.reason.HeadReason.TheVariants.{NoList, OtherLength, AfterMatching}
+use Rattle.tn_verdict.specs.declared.reason.BoundWithin.{BoundWithin}
 use Rattle.tn_verdict.specs.declared.reason.ConditionReason.{ConditionReason}
 use Rattle.tn_verdict.specs.declared.reason.ConditionReason.TheVariants.{HasValue, FaultsAt}
 use Rattle.tn_verdict.specs.declared.reason.Reason.{Reason}
@@ -27,8 +29,12 @@ head_reason_seen NoList = heads.no_list
 head_reason_seen OtherLength = heads.other_length
 head_reason_seen (AfterMatching n m) = heads.after_matching n (mismatch_seen m)
 
+-- the variables of a condition
+abbrev pub bound_seen : {A : Type 0} → BoundWithin A → Bindings
+bound_seen b = reasons.bound_within (expr_seen b.condition.now) (bindings_seen b.bindings.now)
+
 abbrev pub condition_seen : {A : Type 0} → ConditionReason A → reasons.ConditionReason
-condition_seen (HasValue v) = reasons.has_value (value_seen v)
+condition_seen (HasValue v b) = reasons.has_value (value_seen v) (bound_seen b)
 condition_seen (FaultsAt e) = reasons.faults_at (expr_seen e.now)
 
 abbrev pub reason_seen : {A : Type 0} → Reason A → reasons.Reason

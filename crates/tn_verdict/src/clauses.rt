@@ -1,5 +1,6 @@
 // What becomes of a clause.
 ghost use Rattle.std.specs.Prelude.{◌≡◌, IfOk, Option, None};
+ghost use Rattle.def_spec.specs.Matching.{Bindings};
 ghost use Rattle.def_explain.specs.Reasons as reasons;
 ghost use Rattle.def_explain.specs.Reasons.{untrue_by};
 ghost use Rattle.tn_spec.specs.Views.{exprs_seen};
@@ -8,7 +9,7 @@ ghost use Rattle.tn_verdict.specs.Views.{reasons_seen, part_at, verdict_seen};
 
 use crate::faults::fault_in;
 use crate::heads::head_reason;
-use crate::reason::{ConditionReason, Reason, Verdict};
+use crate::reason::{BoundWithin, ConditionReason, Reason, Verdict};
 use bumpalo::Bump;
 use std::alloc::{AllocError, Allocator};
 use tn_action::{Context, EvalContext, Position, body_effects, value};
@@ -32,26 +33,26 @@ pub fn verdict<'a, A: Allocator + Copy>(
             None => unreachable!(),
         };
     };
+    let bindings = &*arena.try_alloc(bindings)?;
     let scene = EvalContext {
         alloc,
         arena,
         dialect,
         part: Position::Condition,
-        bindings: &bindings,
+        bindings,
         context,
     };
     if let Some(reason) = first_untrue(&clause.conditions, &scene)? {
         return Ok(Verdict::Fails(reason));
     }
     let effects = body_effects(&clause.body, &scene)?;
-    let bindings = &*arena.try_alloc(bindings)?;
     Ok(Verdict::Fires { bindings, effects })
 }
 
 /// The first condition that isn't `true`, and why.
 fn first_untrue<'a, A: Allocator + Copy>(
     conditions: &'a Vec<Expr<A>, A>,
-    scene: &EvalContext<'a, '_, A>,
+    scene: &EvalContext<'a, 'a, A>,
 ) -> Result<Option<Reason<'a, A>>, AllocError>
     requires { IsOfConditions scene.now }
     ensures { IfOk result (λ r. reasons_seen r ≡ untrue_of scene.now 0 (exprs_seen conditions.now.items)) }
@@ -62,7 +63,14 @@ fn first_untrue<'a, A: Allocator + Copy>(
         match value(condition, scene, &mut effects)? {
             Some(other) => {
                 if !other.is_true() {
-                    let why = ConditionReason::HasValue(other);
+                    let bound = BoundWithin {
+                        condition,
+                        bindings: scene.bindings,
+                    };
+                    let why = ConditionReason::HasValue {
+                        value: other,
+                        bound,
+                    };
                     return Ok(Some(Reason::ByCondition { index, why }));
                 }
             }
@@ -73,11 +81,12 @@ fn first_untrue<'a, A: Allocator + Copy>(
 }
 
 /// That the condition faults at this part, where there is one.
-fn condition_fault<'a, A: Allocator>(
+fn condition_fault<'a, A: Allocator + Copy>(
     index: usize,
     part: Option<&'a Expr<A>>,
 ) -> Option<Reason<'a, A>>
-    ensures { (r : Option reasons.Reason) → reasons_seen result ≡ untrue_by index None (part_at part.entry) r }
+    ensures { (bound : Bindings) (r : Option reasons.Reason) →
+        reasons_seen result ≡ untrue_by index bound None (part_at part.entry) r }
 {
     match part {
         Some(part) => Some(Reason::ByCondition {

@@ -21,14 +21,16 @@ mod reason_text;
 mod spec_reason_texts;
 mod spec_test;
 mod spec_test_input;
+mod variables;
 
 pub use clauses::verdict;
 pub use effects::{put_effects, put_flags};
 pub use no_specification::no_specification_text;
-pub use reason::{ConditionReason, HeadReason, Reason, Verdict};
+pub use reason::{BoundWithin, ConditionReason, HeadReason, Reason, Verdict};
 pub use reason_text::put_reason;
 pub use spec_reason_texts::{put_setting_reason, put_spec_reason};
 pub use spec_test::{put_clause, put_spec_test};
 pub use spec_test_input::{
     SpecTestFault, SpecTestInput, SpecTestTerms, answer, spec_test_flags, terms_of,
 };
+pub use variables::stands_in;

@@ -22,18 +22,28 @@ pub enum HeadReason<'a, A: Allocator> {
     },
 }
 
+/// The variables that stand in a condition, with what they are bound to.
+#[derive_where(Clone, Copy)]
+pub struct BoundWithin<'a, A: Allocator + Copy> {
+    pub condition: &'a Expr<A>,
+    pub bindings: &'a Bindings<'a, A, &'a Bump<A>>,
+}
+
 /// Why a condition isn't `true`.
 #[derive_where(Clone, Copy)]
-pub enum ConditionReason<'a, A: Allocator> {
-    /// It has this other value.
-    HasValue(Value<'a, A>),
+pub enum ConditionReason<'a, A: Allocator + Copy> {
+    /// It has this other value, with its variables.
+    HasValue {
+        value: Value<'a, A>,
+        bound: BoundWithin<'a, A>,
+    },
     /// It faults at this part.
     FaultsAt(&'a Expr<A>),
 }
 
 /// Why a clause doesn't fire.
 #[derive_where(Clone, Copy)]
-pub enum Reason<'a, A: Allocator> {
+pub enum Reason<'a, A: Allocator + Copy> {
     /// The head doesn't match.
     ByHead(HeadReason<'a, A>),
     /// The condition after so many isn't `true`.

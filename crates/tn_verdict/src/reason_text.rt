@@ -1,14 +1,20 @@
 // The texts of reasons.
-ghost use Rattle.std.specs.Prelude.{◌≡◌, ◌++◌, OnOk};
-ghost use Rattle.def_explain.specs.Texts.{head_reason_text, condition_reason_text, reason_text};
-ghost use Rattle.tn_verdict.specs.Views.{head_reason_seen, condition_seen, reason_seen};
+ghost use Rattle.std.specs.Prelude.{◌≡◌, ◌++◌, OnOk, codes, map};
+ghost use Rattle.def_explain.specs.Reasons.{bound_within};
+ghost use Rattle.def_explain.specs.Texts.{bound_text, bound_texts, head_reason_text, condition_reason_text, reason_text};
+ghost use Rattle.tn_head.specs.Views.{binding_seen};
+ghost use Rattle.tn_spec.specs.Views.{expr_seen};
+ghost use Rattle.tn_verdict.specs.Views.{head_reason_seen, bound_seen, condition_seen, reason_seen};
 ghost use Rattle.tn_text.specs.Writes.{Grows};
 
-use crate::expression_text::put_expr;
+use crate::expression_text::{put_expr, put_variable};
 use crate::mismatch_text::put_mismatch;
-use crate::reason::{ConditionReason, HeadReason, Reason};
+use crate::reason::{BoundWithin, ConditionReason, HeadReason, Reason};
+use crate::variables::stands_in;
 use std::alloc::{AllocError, Allocator};
 use tn_guard::write_value;
+use tn_head::{Binding, Bindings};
+use tn_spec::Expr;
 use tn_text::write_next;
 
 /// Appends why a head doesn't match.
@@ -32,8 +38,63 @@ fn put_head_reason<A: Allocator, B: Allocator>(
     }
 }
 
+/// Appends a variable and the value that it is bound to, after these bytes.
+fn put_bound<A: Allocator, B: Allocator>(
+    between: &[u8],
+    binding: Binding<'_, A>,
+    out: &mut Vec<u8, B>,
+) -> Result<(), AllocError>
+    ensures ok { OnOk result (out.new.items ≡ out.old.items ++ between.now ++ bound_text (binding_seen binding.entry)) }
+    ensures grows { Grows out.old.items out.new.items }
+{
+    out.extend_from_slice(between)?;
+    put_variable(binding.number, out)?;
+    out.extend_from_slice(b" is ")?;
+    write_value(binding.value, out)
+}
+
+/// Appends those of the bindings whose variables stand in a condition.
+fn put_each_within<A: Allocator, B: Allocator>(
+    condition: &Expr<A>,
+    bindings: &[Binding<'_, A>],
+    out: &mut Vec<u8, B>,
+) -> Result<(), AllocError>
+    ensures ok { OnOk result (out.new.items ≡ out.old.items
+        ++ bound_texts (codes ": ") (bound_within (expr_seen condition.now) (map binding_seen bindings.now))) }
+    ensures grows { Grows out.old.items out.new.items }
+{
+    let mut between = b": ".as_slice();
+    for binding in bindings {
+        if stands_in(binding.number, condition) {
+            put_bound(between, *binding, out)?;
+            between = b", ".as_slice();
+        }
+    }
+    Ok(())
+}
+
+/// Appends the variables of a condition.
+fn put_bound_within<A: Allocator + Copy, B: Allocator>(
+    bound: BoundWithin<'_, A>,
+    out: &mut Vec<u8, B>,
+) -> Result<(), AllocError>
+    ensures ok { OnOk result (out.new.items ≡ out.old.items ++ bound_texts (codes ": ") (bound_seen bound.entry)) }
+    ensures grows { Grows out.old.items out.new.items }
+{
+    match bound.bindings {
+        Bindings::Whole(number, elements) => {
+            let binding = Binding {
+                number: *number,
+                value: elements.list(),
+            };
+            put_each_within(bound.condition, &[binding], out)
+        }
+        Bindings::Each(bindings) => put_each_within(bound.condition, bindings.as_slice(), out),
+    }
+}
+
 /// Appends why a condition isn't `true`.
-fn put_condition_reason<A: Allocator, B: Allocator>(
+fn put_condition_reason<A: Allocator + Copy, B: Allocator>(
     why: ConditionReason<'_, A>,
     out: &mut Vec<u8, B>,
 ) -> Result<(), AllocError>
@@ -41,9 +102,10 @@ fn put_condition_reason<A: Allocator, B: Allocator>(
     ensures grows { Grows out.old.items out.new.items }
 {
     match why {
-        ConditionReason::HasValue(value) => {
+        ConditionReason::HasValue { value, bound } => {
             out.extend_from_slice(b" is ")?;
-            write_value(value, out)
+            write_value(value, out)?;
+            put_bound_within(bound, out)
         }
         ConditionReason::FaultsAt(expr) => {
             out.extend_from_slice(b" faults at ")?;
@@ -53,7 +115,7 @@ fn put_condition_reason<A: Allocator, B: Allocator>(
 }
 
 /// Appends why a clause doesn't fire. After an `Err` a part of it may stand there.
-pub fn put_reason<A: Allocator, B: Allocator>(
+pub fn put_reason<A: Allocator + Copy, B: Allocator>(
     reason: Reason<'_, A>,
     out: &mut Vec<u8, B>,
 ) -> Result<(), AllocError>

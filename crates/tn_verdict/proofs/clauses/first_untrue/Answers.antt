@@ -1,6 +1,6 @@
 use Rattle.std.proofs.Common.{◌∙◌, ◌+◌, suc, sym, ap, refl, arith, drop}
 use Rattle.std.specs.Option.{option_map}
-use Rattle.def_explain.specs.Reasons.{untrue_in}
+use Rattle.def_explain.specs.Reasons.{bound_within, untrue_in}
 use Rattle.tn_guard.specs.Views.{value_seen}
 use Rattle.tn_head.specs.Views.{bindings_seen}
 use Rattle.tn_spec.specs.Views.{dialect_of, expr_seen, exprs_seen}
@@ -26,7 +26,7 @@ returns-in-None g c =
     let es = c.args.conditions.now.items in
     let size = c.len-index-end.ensures ∙ c.args.conditions.now.ok.0 in
     let here = exprs_here es c.loop-index.index c.index-condition.result.now (omega (arith, size)) c.index-condition.ensures in
-    c.condition_fault.ensures (untrue_in (dialect_of s.dialect) (bindings_seen s.bindings.now) (context_seen s.context.now) (suc c.loop-index.index) (exprs_seen (drop (c.loop-index.index + 1) es)))
+    c.condition_fault.ensures (bound_within (expr_seen c.index-condition.result.now) (bindings_seen s.bindings.now)) (untrue_in (dialect_of s.dialect) (bindings_seen s.bindings.now) (context_seen s.context.now) (suc c.loop-index.index) (exprs_seen (drop (c.loop-index.index + 1) es)))
     ∙ untrue-faults (dialect_of s.dialect) (bindings_seen s.bindings.now) (context_seen s.context.now) c.loop-index.index _ (exprs_seen (drop (c.loop-index.index + 1) es)) (expr_seen c.index-condition.result.now) (part_at c.in_ok-fault_in-in-None.field-0) _ here
     (in-conditions s (expr_seen c.index-condition.result.now) _ _ _ c.requires c.in_ok-other.ensures ∙ ap (option_map value_seen) c.in-None.is)
     (sym c.in_ok-fault_in-in-None.ensures) c.loop-index.invariant
