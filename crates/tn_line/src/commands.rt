@@ -6,11 +6,10 @@ ghost use Rattle.tn_line.specs.Line.{PICKS, PICKS_OR_ROUND, BY_PICKS, BY_PICKS_O
 ghost use Rattle.tn_line.specs.Line.{RUN, REPLAY, EXPLAIN, DRAW, ROUND, WORKERS, TRIAL};
 
 use crate::arguments::{
-    caller, control, event, expect, expect_line, expect_session, in_rounds, json, json_alone,
-    limit, list, max_output, message, move_number, moves, moves_file, node, of_fun, one_of_picks,
-    output, own_process, picks, picks_file, picks_or_round, quiet, reject_line, script, session,
-    spec_file, specification, spread, strict, summary, text, turns, why_not, without_picks,
-    worker_count,
+    caller, control, event, expect, expect_line, expect_session, in_rounds, json, limit, list,
+    max_output, message, move_number, moves, moves_file, node, of_fun, one_of_picks, output,
+    own_process, picks, picks_file, picks_or_round, quiet, reject_line, script, session, spec_file,
+    specification, spread, strict, summary, text, turns, why_not, without_picks, worker_count,
 };
 use crate::compare_command::compare;
 use crate::explore_command::explore;
@@ -73,7 +72,7 @@ fn with_formats<'a>(alloc: Global, command: Command<'a>) -> Result<Command<'a>, 
 {
     command
         .arg(summary(alloc))?
-        .arg(json_alone(alloc)?)?
+        .arg(json(alloc))?
         .arg(expect_session(alloc)?)
 }
 
