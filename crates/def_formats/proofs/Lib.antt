@@ -6,3 +6,5 @@ mod Longest
 mod ReadRows
 mod LoadRows
 mod MessageTexts
+pub mod MessageMoves
+mod MovedRows

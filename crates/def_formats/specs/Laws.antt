@@ -1,6 +1,6 @@
 -- What is promised of the formats (own).
 -- Depends on the output of an accepted script, on the texts of atoms and on the JSON of RFC 8259, by the kit's `json`.
-use Rattle.std.specs.Prelude.{◌≡◌, ◌==◌, ◌<◌, ◌≤◌, ◌-◌, ◌+◌, ◌^◌, ◌⊎◌, ℕ, true, false, not, List, [], ◌∷◌, ◌++◌, All, length, map, flat_map, sum, slice_get, Some, codes}
+use Rattle.std.specs.Prelude.{◌≡◌, ◌==◌, ◌<◌, ◌≤◌, ◌-◌, ◌+◌, ◌^◌, ◌⊎◌, ℕ, true, false, not, List, [], ◌∷◌, ◌++◌, All, length, map, flat_map, sum, get_or, slice_get, Some, codes}
 use Rattle.std.specs.List.{list_all}
 use Rattle.json.specs.Json.{Json, document}
 use Rattle.json.specs.Print.{print}
@@ -19,6 +19,8 @@ use Rattle.def_formats.specs.Summaries.{NumberedLine, longest, kinds_of_signals,
 use Rattle.def_formats.specs.JsonRows.{rows_by, account_rows, numbered_rows, line_row}
 use Rattle.def_formats.specs.RefusalRows.{refusal_row}
 use Rattle.def_formats.specs.LoadRows.{load_rows_by}
+use Rattle.def_formats.specs.MessageMoves.{message_moves, IsMoveOf}
+use Rattle.def_formats.specs.MovedRows.{moved_rows_by, journal_text}
 
 -- ---- names
 
@@ -78,6 +80,18 @@ MessageIsRead =
 abbrev pub KindsHaveNoComma : Type 0
 KindsHaveNoComma = list_all (λ kind. list_all (λ b. not (b == 44)) kind) (kinds_of_signals ++ kinds_of_calls ++ kinds_of_processes ++ kinds_of_links) ≡ true
 
+-- ---- the moves of messages
+
+-- each message has a move: the one before which it isn't there, and after which it is
+abbrev pub EachMessageHasItsMove : Type 0
+EachMessageHasItsMove =
+    (s : Name) (p : Program) (picks : List ℕ) → (length (message_moves s p picks) ≡ length (messages s p picks))
+    × ((k : ℕ) → k < length (messages s p picks) → IsMoveOf s p picks k (get_or (message_moves s p picks) k 0))
+
+-- the line of the journal is read of an output as it is written there
+abbrev pub JournalIsRead : Type 0
+JournalIsRead = (p : Program) (picks : List ℕ) → HasLines p picks → journal_text (program_output p picks) ≡ picks_text (moves p picks)
+
 -- ---- the greatest message
 
 -- no message is longer, and it is the one of its number, if there is a message that isn't empty
@@ -97,6 +111,12 @@ IsReadBack v = document (print (json_tokens v)) ≡ Some v
 -- each row of an output with fewer than 2^64 lines is
 abbrev pub OutputRowsAreRead : Type 0
 OutputRowsAreRead = (s : Section) (lines : List (List ℕ)) → length lines + 1 < 2 ^ 64 → All IsReadBack (rows_by s lines)
+
+-- with the moves of its messages too
+abbrev pub MovedRowsAreRead : Type 0
+MovedRowsAreRead =
+    (moves : List ℕ) (s : Section) (lines : List (List ℕ)) → length lines + 1 < 2 ^ 64 → ((n m : ℕ) → slice_get moves n ≡ Some m → m < 2 ^ 64)
+    → All IsReadBack (moved_rows_by moves s lines)
 
 -- and each row of its summary, where its lines have fewer than 2^64 bytes too
 abbrev pub LoadRowsAreRead : Type 0

@@ -3,6 +3,8 @@ pub mod Sections
 pub mod Summaries
 pub mod JsonRows
 pub mod LoadRows
+pub mod MessageMoves
+pub mod MovedRows
 pub mod RefusalRows
 pub mod Formats
 pub mod Laws

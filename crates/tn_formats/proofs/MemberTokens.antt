@@ -8,7 +8,7 @@ use Rattle.json.specs.Token.{Token, key, begin_object, end_object}
 use Rattle.json.specs.Tree.{json_tokens, members_tokens}
 use Rattle.json.specs.Written.{Written}
 use Rattle.def_formats.specs.Lines.{before_byte, past_byte}
-use Rattle.def_formats.specs.JsonRows.{text_value, numeral_value, members_from, object_from, json_line, why_members, arrow_members, line_members, front_name, past_name, made_row}
+use Rattle.def_formats.specs.JsonRows.{text_value, numeral_value, members_from, object_from, json_line, why_members, arrow_members, account_members, front_name, past_name, made_row}
 use Rattle.tn_formats.specs.Tokens.{GainsTokens, AddsTokens, text_member, numeral_member, move_tokens, tokens_of_members}
 
 -- what is written after some tokens is written after both
@@ -44,7 +44,7 @@ arrow_alone text e = text_alone (codes "trace_message") text ∙ ap (λ (b : Boo
 -- what a session makes of a move, by its parts
 abbrev made_from : (number pick event name said : List ℕ) → Json
 made_from number pick event name said =
-    object_from ((codes "move", numeral_value number) ∷ (codes "pick", numeral_value pick) ∷ (codes "event", text_value event) ∷ (codes "session", text_value name) ∷ (codes "line", text_value said) ∷ line_members said)
+    object_from ((codes "move", numeral_value number) ∷ (codes "pick", numeral_value pick) ∷ (codes "event", text_value event) ∷ (codes "session", text_value name) ∷ (codes "line", text_value said) ∷ account_members said)
 
 abbrev pub made_front : (number pick event name said : List ℕ) → List Token
 made_front number pick event name said = move_tokens number pick event ++ (text_member (codes "session") name ++ text_member (codes "line") said)
@@ -52,12 +52,12 @@ made_front number pick event name said = move_tokens number pick event ++ (text_
 in_a_row : (a b c d e f : List Token) → (((a ++ b) ++ c) ++ (d ++ e)) ++ f ≡ a ++ (b ++ (c ++ (d ++ (e ++ f))))
 in_a_row a b c d e f = simp append_assoc
 
-made_tokens : (number pick event name said : List ℕ) → begin_object ∷ (made_front number pick event name said ++ members_tokens (members_from (line_members said))) ≡ json_tokens (made_from number pick event name said)
+made_tokens : (number pick event name said : List ℕ) → begin_object ∷ (made_front number pick event name said ++ members_tokens (members_from (account_members said))) ≡ json_tokens (made_from number pick event name said)
 made_tokens number pick event name said =
     ap (λ ts. begin_object ∷ ts)
-    (in_a_row (numeral_member (codes "move") number) (numeral_member (codes "pick") pick) (text_member (codes "event") event) (text_member (codes "session") name) (text_member (codes "line") said) (members_tokens (members_from (line_members said))))
+    (in_a_row (numeral_member (codes "move") number) (numeral_member (codes "pick") pick) (text_member (codes "event") event) (text_member (codes "session") name) (text_member (codes "line") said) (members_tokens (members_from (account_members said))))
 
 pub made_is : (move line number pick event rest name said : List ℕ) → number ≡ before_byte 32 move → pick ≡ before_byte 32 (past_byte 32 move) → event ≡ past_byte 32 (past_byte 32 move) → rest ≡ drop 2 line → name ≡ front_name rest → said ≡ past_name rest
-    → begin_object ∷ (made_front number pick event name said ++ members_tokens (members_from (line_members said))) ≡ json_tokens (made_row move line)
+    → begin_object ∷ (made_front number pick event name said ++ members_tokens (members_from (account_members said))) ≡ json_tokens (made_row move line)
 made_is move line number pick event rest name said h1 h2 h3 h4 h5 h6 =
     made_tokens number pick event name said ∙ (λ i. json_tokens (made_from (h1 i) (h2 i) (h3 i) ((h5 ∙ ap front_name h4) i) ((h6 ∙ ap past_name h4) i)))

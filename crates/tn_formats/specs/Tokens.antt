@@ -46,6 +46,11 @@ abbrev pub message_tokens : ℕ → List ℕ → List Token
 message_tokens n line =
     number_member (codes "message") n ++ text_member (codes "kind") (message_kind line) ++ text_member (codes "pid") (message_pid line) ++ text_member (codes "text") line
 
+-- of its kind, its pid and its text
+abbrev pub message_parts_tokens : List ℕ → List Token
+message_parts_tokens line =
+    text_member (codes "kind") (message_kind line) ++ text_member (codes "pid") (message_pid line) ++ text_member (codes "text") line
+
 -- of a move
 abbrev pub move_tokens : (move pick event : List ℕ) → List Token
 move_tokens move pick event = numeral_member (codes "move") move ++ numeral_member (codes "pick") pick ++ text_member (codes "event") event
