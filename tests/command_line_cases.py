@@ -5,6 +5,7 @@ import hashlib
 import os
 import pathlib
 import re
+import shlex
 import subprocess
 import tarfile
 import tempfile
@@ -13,7 +14,7 @@ from harness import EMPTY, EXAMPLES, NO_FORMS, PROGRAM, ROWS, SEND_HI, SEND_HI_O
 from harness import TEXT_BYTES, TOP, check, note_of_nobody, run, wants
 from inventories import said_version
 
-NARROW_COMMANDS = ("explain", "draw", "spec", "fun", "compare", "serve")
+HELPS = ("run", "replay", "round", "workers", "explain", "state", "draw", "spec", "fun", "explore", "compare", "serve")
 OF_A_RETURN = b"expected line %d ends in a carriage return, which no line of an output has\n"
 
 
@@ -49,6 +50,7 @@ exit 7
             ["round", "--quiet"],
             ["round", "--expect-line", "x"],
             ["round", "--max-output", "9"],
+            ["round", "--max-memory", "9"],
             ["round", "--control", "first"],
             ["replay", "--moves", "0! *"],
             ["explain", "--round", "--limit", "5"],
@@ -206,12 +208,15 @@ def command_lines():
     texts = b"<--picks <TEXT>|--picks-file <FILE>|--moves <TEXT>|--moves-file <FILE>"
     for command, either in (("replay", texts + b">"), ("explain", texts + b"|--round>"), ("draw", texts + b"|--round>")):
         ran = run([command])
-        usage = f"Usage: tracenode {command} ".encode() + either + b" [SCRIPT]\n"
+        plain = b" [SCRIPT] [N]\n" if command == "explain" else b" [SCRIPT]\n"
+        usage = f"Usage: tracenode {command} ".encode() + either + plain
         check(f"{command} without picks names all sources of picks", usage in ran.stderr, ran)
         check(f"the help of {command} names all sources of picks", either in run([command, "--help"]).stdout)
     usage_errors()
     nameless_files()
     widths_of_help()
+    examples_of_help()
+    numbers_of_moves()
     spellings_of_processes()
     spellings_of_sessions()
     quiet_runs()
@@ -245,12 +250,58 @@ def nameless_files():
 
 
 def widths_of_help():
-    """The help of these commands is at most 80 columns wide, but for its usage and for a line with all values of an option."""
-    for command in NARROW_COMMANDS:
-        ran = run([command, "--help"])
-        lines = [line for line in ran.stdout.decode().splitlines() if "[possible values: " not in line and not line.startswith("Usage: ")]
+    """Each help is at most 80 columns wide, but for its usage and for the lines of an option with all its values."""
+    for words in (["--help"], *([command, "--help"] for command in HELPS)):
+        ran = run(words)
+        known = ("[possible values: ", "--color <WHEN>", "Usage: ")
+        lines = [line for line in ran.stdout.decode().splitlines() if not any(part in line for part in known)]
         wide = [line for line in lines if len(line) > 80]
-        check(f"the width of the help of {command}", ran.returncode == 0 and len(lines) > 5 and not wide, wide)
+        check(f"the width of the help {words}", ran.returncode == 0 and len(lines) > 5 and not wide, wide)
+
+
+def examples_of_help():
+    """The help of each command has an example, which is answered; that of `serve` is asked of it."""
+    for command in HELPS:
+        told = run([command, "--help"]).stdout.decode()
+        lines = [line for line in told.partition("\nExample:\n")[2].splitlines() if line.startswith("  ")]
+        check(f"the help of {command} has an example", len(lines) == 1 and f"tracenode {command}" in lines[0], told)
+        if command != "serve":
+            words = shlex.split(lines[0])[1:]
+            ran = run([word.replace("examples/", f"{EXAMPLES}/") for word in words])
+            check(f"the example of {command}", ran.returncode == 0 and ran.stdout and b"error" not in ran.stderr, ran)
+
+
+def numbers_of_moves():
+    """A word of digits is the number of a move, before the script or after it, and alone; a file of that name has a path."""
+    script, later = str(EXAMPLES / "numbers.term"), "\n\nFor more information, try '--help'.\n"
+    text = (EXAMPLES / "numbers.term").read_bytes()
+    moves = ["--moves", "0! go!"]
+    for number in ("1", "9", "009"):
+        wanted = run(["explain", script, *moves, "--move", number])
+        check(f"move {number} of a script", wanted.returncode == 0 and wanted.stdout, wanted)
+        for words in ([number, script, *moves], [script, number, *moves], [*moves, number, script], [number, *moves, script], ["-", number, *moves]):
+            ran = run(["explain", *words], text)
+            wants(f"the move of explain {words}", ran, 0, wanted.stdout)
+        wants(f"the move {number} of standard input", run(["explain", number, *moves], text), 0, wanted.stdout)
+    wants("no such move", run(["explain", "99", script, "--moves", "0! go!"]), 2, b"", b"error: the run has no move 99: its moves are 1 to 11\n")
+    beside = "N isn't given beside --move, --message or --why-not"
+    two = "N is given already; a file of this name is given with ./ before it, and picks are one word"
+    rows = (
+        (["3", script, *moves, "--move", "3"], "3", "[N]", beside),
+        ([script, "3", *moves, "--message", "'_'"], "3", "[N]", beside),
+        (["3", *moves, "--why-not", "'_'"], "3", "[N]", beside),
+        (["4294967296", script, *moves], "4294967296", "[N]", "a number below 4294967296 is expected"),
+        ([script, "x", *moves], "x", "[N]", "a number below 4294967296 is expected"),
+        (["3", "4", *moves], "4", "[SCRIPT]", two),
+        (["--picks", "0", "0", "100"], "100", "[SCRIPT]", two),
+    )
+    for words, word, name, why in rows:
+        told = f"error: invalid value '{word}' for '{name}': {why}{later}"
+        wants(f"the words explain {words}", run(["explain", *words], text), 2, b"", told.encode())
+    with tempfile.TemporaryDirectory() as folder:
+        (pathlib.Path(folder) / "3").write_bytes(text)
+        ran = subprocess.run([str(PROGRAM), "explain", "./3", "9", *moves], cwd=folder, capture_output=True, check=False)
+        wants("a file of digits", ran, 0, run(["explain", script, "9", *moves]).stdout)
 
 
 def usage_errors():
@@ -260,6 +311,12 @@ def usage_errors():
         (["round", "--limit", "x"], f"error: invalid value 'x' for '--limit <N>': {digits}\n"),
         (["round", "--limit", ""], f"error: invalid value '' for '--limit <N>': {digits}\n"),
         (["round", "--max-output", "10k"], f"error: invalid value '10k' for '--max-output <BYTES>': {digits}\n"),
+        (["round", "--max-memory", "1G"], f"error: invalid value '1G' for '--max-memory <BYTES>': {digits}\n"),
+        (["round", "--max-memory", "0"], "error: invalid value '0' for '--max-memory <BYTES>': 0 is not in 1..18446744073709551615\n"),
+        (
+            ["round", "--max-memory", "18446744073709551616"],
+            "error: invalid value '18446744073709551616' for '--max-memory <BYTES>': the greatest number is 18446744073709551615\n",
+        ),
         (["explain", "--round", "--move", "2-4"], f"error: invalid value '2-4' for '--move <N>': {digits}\n"),
         (["explain", "--round", "--quiet"], "error: unexpected argument '--quiet' found\n\nUsage: "),
         (["rply"], "error: unrecognized subcommand 'rply'\n\n  tip: a similar subcommand exists: 'replay'\n"),

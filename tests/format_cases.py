@@ -32,8 +32,20 @@ commands: 2
 moves: 4
 """
 
+SEND_HI_LOADS = b"""{"session":"s1","tracer":"t1","kind":"send","messages":1,"bytes":39}
+{"session":"s1","tracer":"t1","messages":1,"bytes":39}
+{"session":"s1","tracer":"t1","greatest":1,"bytes":39,"text":"{trace,<0.100.0>,send,{hi,1},<0.101.0>}"}
+{"commands":2}
+{"moves":4}
+"""
+
+NO_LOADS = b"""{"session":"s1","tracer":"t1","messages":0,"bytes":0}
+{"commands":1}
+{"moves":1}
+"""
+
 SEND_HI_JSON = b"""{"session":"s1","tracer":"t1","messages":1}
-{"session":"s1","tracer":"t1","message":1,"kind":"send","pid":"<0.100.0>","text":"{trace,<0.100.0>,send,{hi,1},<0.101.0>}"}
+{"session":"s1","tracer":"t1","message":1,"move":4,"kind":"send","pid":"<0.100.0>","text":"{trace,<0.100.0>,send,{hi,1},<0.101.0>}"}
 {"reply":1,"text":"{session,s1}"}
 {"reply":2,"text":"2"}
 {"journal":[0,0,100,100]}
@@ -42,11 +54,11 @@ SEND_HI_JSON = b"""{"session":"s1","tracer":"t1","messages":1}
 SEND_HI_MOVE = b"""{"move":4,"pick":100,"event":"<0.100.0> send {hi,1} <0.101.0>"}
 {"move":4,"pick":100,"event":"<0.100.0> send {hi,1} <0.101.0>","session":"s1","line":"=> {trace,<0.100.0>,send,{hi,1},<0.101.0>}","trace_message":"{trace,<0.100.0>,send,{hi,1},<0.101.0>}"}
 {"move":4,"pick":100,"event":"<0.101.0> 'receive' {hi,1}"}
-{"move":4,"pick":100,"event":"<0.101.0> 'receive' {hi,1}","session":"s1","line":"no flag 'receive'"}
+{"move":4,"pick":100,"event":"<0.101.0> 'receive' {hi,1}","session":"s1","line":"no flag 'receive'","no_flag":"'receive'"}
 """
 
 QUOTED_JSON = rb"""{"session":"'a b: tracer c'","tracer":"'d \\'e'","messages":1}
-{"session":"'a b: tracer c'","tracer":"'d \\'e'","message":1,"kind":"send","pid":"<0.100.0>","text":"{trace,<0.100.0>,send,{'a\"b','c\\\\d','it\\'s'},<0.101.0>}"}
+{"session":"'a b: tracer c'","tracer":"'d \\'e'","message":1,"move":5,"kind":"send","pid":"<0.100.0>","text":"{trace,<0.100.0>,send,{'a\"b','c\\\\d','it\\'s'},<0.101.0>}"}
 {"session":"n","tracer":"o","messages":0}
 {"reply":1,"text":"{session,'a b: tracer c'}"}
 {"reply":2,"text":"2"}
@@ -61,6 +73,13 @@ NO_OBJECTS = (
     '{"session":"s1","tracer":"t1","messages":1,"more":1}',
     '{"session":"s1","tracer":"t1","message":1,"kind":"sends","pid":"<0.100.0>","text":""}',
     '{"session":"s1","tracer":"t1","message":1,"kind":"send","pid":"100","text":""}',
+    '{"session":"s1","tracer":"t1","message":1,"move":0,"kind":"send","pid":"<0.100.0>","text":""}',
+    '{"session":"s1","tracer":"t1","kind":"send","messages":0,"bytes":0}',
+    '{"session":"s1","tracer":"t1","kind":"sends","messages":1,"bytes":39}',
+    '{"session":"s1","tracer":"t1","messages":1,"bytes":-1}',
+    '{"session":"s1","tracer":"t1","greatest":0,"bytes":0,"text":""}',
+    '{"commands":-1}',
+    '{"commands":2,"moves":4}',
     '{"reply":0,"text":"1"}',
     '{"reply":true,"text":"1"}',
     '{"journal":[-1]}',
@@ -107,8 +126,42 @@ def summary(output):
     return "".join(f"{line}\n" for line in told).encode()
 
 
-def values(output):
-    """The values of JSON that an output of bare names is, as the manual says."""
+def loads(output):
+    """The values of JSON that the summary of an output of bare names is, as the manual says."""
+    found = []
+    for head, lines in sections(output):
+        if head == "== replies":
+            found.append({"commands": len(lines)})
+        elif head == "== journal":
+            found.append({"moves": len(lines[0].split())})
+        else:
+            _, _, name, _, tracer = head.split()
+            session = {"session": name, "tracer": tracer}
+            sizes = [len(line) for line in lines]
+            for kind in KINDS:
+                own = [len(line) for line in lines if line.split(",")[2] == kind]
+                found += [{**session, "kind": kind, "messages": len(own), "bytes": sum(own)}] if own else []
+            found.append({**session, "messages": len(lines), "bytes": sum(sizes)})
+            if lines:
+                at = sizes.index(max(sizes))
+                found.append({**session, "greatest": at + 1, "bytes": sizes[at], "text": lines[at]})
+    return found
+
+
+def moves_told(account):
+    """The numbers of the moves of each session's messages, by an account of sessions with bare names."""
+    told = {}
+    for line in account.decode().splitlines():
+        if line.startswith("  "):
+            name, _, said = line[2:].partition(": ")
+            told.setdefault(name, []).extend([number] if said.startswith("=> ") else [])
+        else:
+            number = int(line.split(" ", 1)[0])
+    return told
+
+
+def values(output, moves):
+    """The values of JSON that an output of bare names is, as the manual says, with the moves of its messages."""
     found = []
     for head, lines in sections(output):
         if head == "== replies":
@@ -121,7 +174,8 @@ def values(output):
             found.append({**session, "messages": len(lines)})
             for at, line in enumerate(lines, 1):
                 pid, kind = line.split(",")[1:3]
-                found.append({**session, "message": at, "kind": kind, "pid": pid, "text": line})
+                move = moves[name][at - 1]
+                found.append({**session, "message": at, "move": move, "kind": kind, "pid": pid, "text": line})
     return found
 
 
@@ -151,9 +205,32 @@ LINE_WORDS = (
 )
 
 
-def line_members(line):
+# What a line of an account says besides.
+ACCOUNT_WORDS = (
+    (r"replies (\{.*)", lambda reply: {"reply": reply}),
+    (r"replies ([^:]*)", lambda reply: {"reply": reply}),
+    (r"replies ([^:]*): (.*)", lambda reply, why: {"reply": reply, "why": why}),
+    (r"no flag (.*)", lambda flag: {"no_flag": flag}),
+    (r"no setting for (.*)", lambda function: {"no_setting": function}),
+    (r"the setting is false", lambda: {"setting": "false"}),
+    (r"the setting is global, and the call doesn't name the module", lambda: {"setting": "global"}),
+    (r"no clause fires", lambda: {"fires": False}),
+    (r"silent", lambda: {"silent": True}),
+    (r"message false", lambda: {"message": False}),
+    (r"the call is marked", lambda: {"mark": "set"}),
+    (r"the call is marked for exceptions", lambda: {"mark": "set for exceptions"}),
+    (r"the call has no mark", lambda: {"mark": "none"}),
+    (r"the call is marked for returns alone", lambda: {"mark": "for returns alone"}),
+    (r"the mark is gone", lambda: {"mark": "gone"}),
+    (r"past a limit: (.*)", lambda limit: {"past_limit": limit}),
+    (r"- (.*)", lambda text: {"node_lacks": text}),
+    (r"\+ (.*)", lambda text: {"node_has": text}),
+)
+
+
+def line_members(line, words=LINE_WORDS):
     """The members of a line that explains, beside its text."""
-    found = ((re.fullmatch(pattern, line, re.DOTALL), members) for pattern, members in LINE_WORDS)
+    found = ((re.fullmatch(pattern, line, re.DOTALL), members) for pattern, members in words)
     return next((members(*match.groups()) for match, members in found if match), {})
 
 
@@ -163,7 +240,7 @@ def account(text):
     for line in text.decode().splitlines():
         if line.startswith("  "):
             name, _, said = line[2:].partition(": ")
-            found.append({**moved, "session": name, "line": said, **line_members(said)})
+            found.append({**moved, "session": name, "line": said, **line_members(said, ACCOUNT_WORDS + LINE_WORDS)})
         else:
             number, pick, event = line.split(" ", 2)
             moved = {"move": int(number), "pick": int(pick), "event": event}
@@ -186,7 +263,8 @@ def schema():
     for path in sorted(EXAMPLES.glob("*.term")):
         script = path.read_bytes()
         picks = run(["round", "--quiet"], script).stdout.decode().splitlines()[-1]
-        lines += [(["round", "--quiet", "--json"], script), (["explain", "--picks", picks, "--json"], script)]
+        lines += [(["round", "--quiet", "--json"], script), (["round", "--quiet", "--summary", "--json"], script)]
+        lines += [(["explain", "--picks", picks, "--json"], script)]
         lines += [(["state", "--picks", picks, "--at", "0", "--json"], script)]
     for words, script in lines:
         ran = run(words, script)
@@ -199,6 +277,9 @@ def formats():
     """Summaries and JSON: of worked runs, of all examples, and of what is refused."""
     wants("the summary of a send", run([*SEND_HI_PICKS, "--summary"], SEND_HI), 0, SEND_HI_SUMMARY)
     wants("a summary without messages", run(["replay", "--picks", "0", "--summary"], SEND_HI), 0, NO_MESSAGE)
+    wants("the summary of a send as JSON", run([*SEND_HI_PICKS, "--summary", "--json"], SEND_HI), 0, SEND_HI_LOADS)
+    ran = run(["replay", "--picks", "0", "--json", "--summary"], SEND_HI)
+    wants("a summary without messages as JSON", ran, 0, NO_LOADS)
     wants("the JSON of a send", run([*SEND_HI_PICKS, "--json"], SEND_HI), 0, SEND_HI_JSON)
     wants("the JSON of no run", run(["round", "--json"]), 0, b'{"journal":[]}\n', NO_FORMS)
     ran = run(["replay", "--picks", "0 0 0 100 100", "--json"], QUOTED)
@@ -215,7 +296,7 @@ def formats():
     for flag in ("--summary", "--json"):
         wants(f"a refused script with {flag}", run(["round", flag], b"{"), 2, b"refused 2 token at 1\n")
         wants(f"refused picks with {flag}", run(["replay", "--picks", "x", flag], SEND_HI), 2, b"refused 20 bad picks\n")
-    for words in ([*SEND_HI_PICKS, "--summary", "--json"], ["explain", "--picks", "0", "--summary"], [*trial, "--summary"]):
+    for words in (["explain", "--picks", "0", "--summary"], [*trial, "--summary"]):
         ran = run(words, SEND_HI)
         check(f"{' '.join(words)} is refused", ran.returncode == 2 and not ran.stdout and ran.stderr, ran)
     ran = run([*SEND_HI_PICKS, "--summary", "--expect-line", "moves: 4"], SEND_HI)
@@ -230,19 +311,27 @@ def of_examples():
         script = path.read_bytes()
         plain = run(["round", "--quiet"], script)
         wants(f"the summary of {path.name}", run(["round", "--quiet", "--summary"], script), 0, summary(plain.stdout))
-        holds(f"the JSON of {path.name}", run(["round", "--quiet", "--json"], script), values(plain.stdout))
+        ran = run(["round", "--quiet", "--summary", "--json"], script)
+        holds(f"the summary of {path.name} as JSON", ran, loads(plain.stdout))
         picks = plain.stdout.decode().splitlines()[-1]
         told = run(["explain", "--picks", picks], script)
+        wanted = values(plain.stdout, moves_told(told.stdout))
+        holds(f"the JSON of {path.name}", run(["round", "--quiet", "--json"], script), wanted)
         holds(f"the JSON of the account of {path.name}", run(["explain", "--picks", picks, "--json"], script), account(told.stdout))
 
 
+def without_moves(lines):
+    """Lines of JSON, without the moves of messages."""
+    return re.sub(rb'("message":\d+),"move":\d+', rb"\1", lines)
+
+
 def of_workers():
-    """A run by workers in a format is that of the replay of its journal."""
+    """A run by workers in a format is that of the replay of its journal, but for the moves of messages."""
     ran = run(["workers", "--n", "2", "--quiet", "--json"], SEND_HI)
     name = "the JSON of a run by workers"
     journal = parsed(name, lambda text: json.loads(text.splitlines()[-1])["journal"], ran.stdout)
     picks = " ".join(str(pick) for pick in journal or ())
     again = run(["replay", "--picks", picks, "--json"], SEND_HI)
-    check(name, ran.returncode == 0 and ran.stdout == again.stdout, (ran, again))
+    check(name, ran.returncode == 0 and ran.stdout == without_moves(again.stdout), (ran, again))
     ran = run(["workers", "--n", "1", "--quiet", "--summary"], SEND_HI)
     check("the summary of a run by workers", ran.returncode == 0 and b"send: messages 1, bytes 39\n" in ran.stdout, ran)

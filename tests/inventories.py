@@ -201,7 +201,7 @@ TAKEN = {
     "run": "RUN", "replay": "REPLAY", "round": "ROUND", "workers": "WORKERS", "explain": "EXPLAIN", "state": "STATE", "draw": "DRAW",
     "spec": "TRIAL", "fun": "FUN_ARGUMENTS", "explore": "EXPLORE_ARGUMENTS",
 }
-BARE_WORDS = {"script", "specification"}
+BARE_WORDS = {"script", "specification", "number"}
 
 
 def taken_options():

@@ -1,4 +1,5 @@
 """Cases of the command `draw`, and of the manual's chapter on it."""
+import json
 import re
 import shlex
 import tempfile
@@ -7,6 +8,7 @@ import xml.etree.ElementTree as ElementTree
 from explanation_cases import blocks, chapter
 from harness import EXAMPLES, SEND_HI, TOP, check, parsed, run, wants
 from run_cases import notes_of
+from schemas import is_valid
 
 SVG = "{http://www.w3.org/2000/svg}"
 
@@ -53,6 +55,20 @@ def is_shown(text, title):
     return len(title.text) > 100 and title.tail == f"{title.text[:100]}.."
 
 
+def rows_of_json(name, script, picks, wanted):
+    """The rows of a picture as JSON: each is valid, and the messages of a session are the lines of its listing."""
+    ran = run(["draw", "--picks", picks, "--json"], script)
+    rows = [parsed(f"a row of example {name}", json.loads, line) for line in ran.stdout.decode().splitlines()]
+    check(f"the rows of example {name}", ran.returncode == 0 and all(map(is_valid, rows)), ran)
+    sessions = [row for row in rows if "session" in row]
+    check(f"the sessions of example {name}", [row["number"] for row in sessions] == list(range(1, len(wanted) + 1)), rows)
+    events = [row for row in rows if "row" in row]
+    check(f"the numbers of the rows of example {name}", [row["row"] for row in events] == list(range(len(events))), rows)
+    reports = [report for row in events for report in row["reports"]]
+    seen = [[report["text"] for report in reports if report["number"] == one["number"]] for one in sessions]
+    check(f"the messages in the rows of example {name}", seen == wanted, (seen, wanted))
+
+
 def pictures():
     """The picture of each example parses; each line of a listing is one tooltip, in order, in its session's colour."""
     for script in sorted(EXAMPLES.glob("*.term")):
@@ -71,6 +87,7 @@ def pictures():
         check(f"the number of tooltips of example {script.stem}", titles == sum(map(len, wanted)) == len(marks), titles)
         cut = [(part.text or "", part.find(f"{SVG}title")) for part in picture.iter(f"{SVG}text")]
         check(f"the texts of example {script.stem}", all(is_shown(*pair) for pair in cut), cut)
+        rows_of_json(script.stem, text, picks, wanted)
         plain = run(["draw", "--picks", picks, "--text"], text).stdout.decode().splitlines()
         counts = [sum(line.split().count(f"=>{number}") for line in plain[len(wanted) :]) for number in numbers]
         check(f"the lines of example {script.stem}", counts == list(map(len, wanted)), counts)
@@ -80,10 +97,12 @@ def pictures():
 
 def drawings():
     """The manual's sample, refusals, a text with markup, and files."""
-    sample = blocks(chapter("Drawing a run"))[1]
-    words = shlex.split(sample[0])[1:]
-    words[words.index("examples/send_hi.term")] = str(EXAMPLES / "send_hi.term")
-    wants("the manual's picture", run(words), 0, ("\n".join(sample[1:]) + "\n").encode())
+    for sample in blocks(chapter("Drawing a run"))[1:3]:
+        words = shlex.split(sample[0])[1:]
+        words[words.index("examples/send_hi.term")] = str(EXAMPLES / "send_hi.term")
+        wants(f"the manual's picture by {words[-1]}", run(words), 0, ("\n".join(sample[1:]) + "\n").encode())
+    both = run(["draw", "--picks", "0", "--text", "--json"], SEND_HI)
+    check("a picture as lines and as JSON", both.returncode == 2 and not both.stdout and b"--json" in both.stderr, both)
     wants("a picture by bad picks", run(["draw", "--picks", "0 00"], SEND_HI), 2, b"refused 20 bad picks\n")
     wants("a picture of no script", run(["draw", "--picks", "0"], b"{"), 2, run(["replay", "--picks", "0"], b"{").stdout)
     one = ["draw", "--picks", "0", "--text"]

@@ -16,6 +16,7 @@ import sys
 sys.dont_write_bytecode = True
 
 import bound_cases
+import colour_cases
 import command_line_cases
 import comparison_cases
 import document_cases
@@ -101,7 +102,7 @@ SUBJECTS = {
         comparison_cases.bad_traces,
         comparison_cases.comparison_json,
     ),
-    "format": (format_cases.formats, format_cases.schema),
+    "format": (format_cases.formats, format_cases.schema, colour_cases.colours),
     "serve": (
         serve_cases.answers,
         serve_cases.faults,
@@ -117,6 +118,8 @@ SUBJECTS = {
         bound_cases.output_files,
         bound_cases.refusals_in_bounds,
         bound_cases.bad_bounds,
+        bound_cases.memory_bounds,
+        bound_cases.bad_memory_bounds,
         bound_cases.endless_outputs,
         bound_cases.little_memory,
     ),

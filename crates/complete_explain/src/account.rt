@@ -3,7 +3,7 @@ ghost use Rattle.std.specs.Prelude.{◌≡◌, IfOk, OnOk, OnErr};
 
 use std::alloc::{AllocError, Allocator};
 use tn_explain::{ExplainOutcome, Filter, account_of, put_account};
-use tn_message_choice::MessageChoice;
+use tn_message_choice::MessageFilter;
 use tn_moves::Plan;
 use tn_program::Program;
 
@@ -13,7 +13,7 @@ pub struct ExplainedProgram<'a, A: Allocator> {
     pub program: &'a Program<A>,
     pub plan: &'a Plan<'a, A>,
     pub filter: Filter<'a>,
-    pub message: Option<MessageChoice<'a>>,
+    pub message: Option<MessageFilter<'a>>,
 }
 
 /// `tn_explain::account_of` has one outcome and one text.

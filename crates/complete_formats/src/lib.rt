@@ -6,4 +6,5 @@
 
 mod format;
 mod lines;
+mod moved_rows;
 mod refusal;

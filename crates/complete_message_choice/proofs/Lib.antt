@@ -1,1 +1,2 @@
 mod Both
+mod Counts

@@ -5,3 +5,4 @@
 #![tactic(auto)]
 
 mod choosers;
+mod numbers;

@@ -60,6 +60,24 @@ pub fn plain_text<A: Allocator + Copy>(
     )
 }
 
+/// `tn_picture::picture_json` has one text.
+pub fn picture_json<A: Allocator + Copy>(
+    alloc: A,
+    one: &Picture<A>,
+    other: &Picture<A>,
+) -> (
+    Result<Vec<u8, A>, AllocError>,
+    Result<Vec<u8, A>, AllocError>,
+)
+    requires { picture_seen one.now ≡ picture_seen other.now }
+    ensures { IfOk result.0 (λ a. IfOk result.1 (λ b. a.items ≡ b.items)) }
+{
+    (
+        tn_picture::picture_json(alloc, one),
+        tn_picture::picture_json(alloc, other),
+    )
+}
+
 /// `tn_picture::PictureFormat::text_of` has one text.
 pub fn text_of<A: Allocator + Copy>(
     alloc: A,

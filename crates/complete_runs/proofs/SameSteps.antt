@@ -21,14 +21,14 @@ use Rattle.complete_runs.specs.Alike.{StepAlike, listing_seen, seen_by, step_see
 use Rattle.complete_runs.proofs.Both.{where_both}
 
 -- the messages of a listing are determined
-lists_seen : {A : Type 0} (p : Program) (picks : List ℕ) (n : ℕ) (o : Option (Bor (List (WrittenTerm A)))) → Lists p picks n o → listing_seen o ≡ option_map (λ s. messages s.0 p picks) (creation_numbered p n)
-lists_seen p picks n None h = ap (option_map (λ s. messages s.0 p picks)) (sym h)
-lists_seen p picks n (Some v) h = ap Some h.2 ∙ ap (option_map (λ s. messages s.0 p picks)) (sym h.1)
+tallies_seen : {A : Type 0} (p : Program) (picks : List ℕ) (n : ℕ) (o : Option (Bor (List (WrittenTerm A)))) → Lists p picks n o → listing_seen o ≡ option_map (λ s. messages s.0 p picks) (creation_numbered p n)
+tallies_seen p picks n None h = ap (option_map (λ s. messages s.0 p picks)) (sym h)
+tallies_seen p picks n (Some v) h = ap Some h.2 ∙ ap (option_map (λ s. messages s.0 p picks)) (sym h.1)
 
 lists_all : {A : Type 0} (p : Program) (n : ℕ) (o : Option (List ℕ)) (r : Result (Option (Bor (List (WrittenTerm A)))) StepFault) → IfSome o (λ picks. IsOkAnd r (Lists p picks n))
     → IfSome o (λ picks. IsOkAnd r (λ v. listing_seen v ≡ option_map (λ s. messages s.0 p picks) (creation_numbered p n)))
 lists_all p n None r h = h
-lists_all p n (Some picks) (Ok v) h = lists_seen p picks n v h
+lists_all p n (Some picks) (Ok v) h = tallies_seen p picks n v h
 lists_all p n (Some picks) (Err e) h = h
 
 -- what a call answers that reads a core: this of its journal, or that it was refused memory

@@ -7,6 +7,7 @@
 mod functions;
 mod line;
 mod listing;
+mod message_moves;
 mod output;
 mod picks;
 mod recorder;

@@ -48,6 +48,38 @@ fun_rows : text_json (codes "clause 1 (line 1): guard X > 3 is false\nclause 2 (
 unfolding digits print_from escape_byte after_number
 fun_rows = refl
 
+-- what a session makes of a command and of an event
+reply_row : account_json (codes "1 0 e\n  s: replies badarg: no flag sends; is send meant?\n  s: replies {session,'a: b'}\n  s: replies 1\n") ≡ codes "{\"move\":1,\"pick\":0,\"event\":\"e\"}\n{\"move\":1,\"pick\":0,\"event\":\"e\",\"session\":\"s\",\"line\":\"replies badarg: no flag sends; is send meant?\",\"reply\":\"badarg\",\"why\":\"no flag sends; is send meant?\"}\n{\"move\":1,\"pick\":0,\"event\":\"e\",\"session\":\"s\",\"line\":\"replies {session,'a: b'}\",\"reply\":\"{session,'a: b'}\"}\n{\"move\":1,\"pick\":0,\"event\":\"e\",\"session\":\"s\",\"line\":\"replies 1\",\"reply\":\"1\"}\n"
+unfolding digits print_from escape_byte after_number
+reply_row = refl
+
+cause_rows : account_json (codes "2 7 e\n  s: no flag 'receive'\n  s: no setting for m:g/0\n  s: the setting is false\n  s: no clause fires\n") ≡ codes "{\"move\":2,\"pick\":7,\"event\":\"e\"}\n{\"move\":2,\"pick\":7,\"event\":\"e\",\"session\":\"s\",\"line\":\"no flag 'receive'\",\"no_flag\":\"'receive'\"}\n{\"move\":2,\"pick\":7,\"event\":\"e\",\"session\":\"s\",\"line\":\"no setting for m:g/0\",\"no_setting\":\"m:g/0\"}\n{\"move\":2,\"pick\":7,\"event\":\"e\",\"session\":\"s\",\"line\":\"the setting is false\",\"setting\":\"false\"}\n{\"move\":2,\"pick\":7,\"event\":\"e\",\"session\":\"s\",\"line\":\"no clause fires\",\"fires\":false}\n"
+unfolding digits print_from escape_byte after_number
+cause_rows = refl
+
+-- the name of the module in the call decides which of both it is
+setting_row : account_json (codes "2 7 e\n  s: the setting is global, and the call doesn't name the module\n") ≡ codes "{\"move\":2,\"pick\":7,\"event\":\"e\"}\n{\"move\":2,\"pick\":7,\"event\":\"e\",\"session\":\"s\",\"line\":\"the setting is global, and the call doesn't name the module\",\"setting\":\"global\"}\n"
+unfolding digits print_from escape_byte after_number
+setting_row = refl
+
+mark_rows : account_json (codes "2 7 e\n  s: the call is marked\n  s: the call is marked for exceptions\n  s: the mark is gone\n") ≡ codes "{\"move\":2,\"pick\":7,\"event\":\"e\"}\n{\"move\":2,\"pick\":7,\"event\":\"e\",\"session\":\"s\",\"line\":\"the call is marked\",\"mark\":\"set\"}\n{\"move\":2,\"pick\":7,\"event\":\"e\",\"session\":\"s\",\"line\":\"the call is marked for exceptions\",\"mark\":\"set for exceptions\"}\n{\"move\":2,\"pick\":7,\"event\":\"e\",\"session\":\"s\",\"line\":\"the mark is gone\",\"mark\":\"gone\"}\n"
+unfolding digits print_from escape_byte after_number
+mark_rows = refl
+
+no_mark_rows : account_json (codes "2 7 e\n  s: the call has no mark\n  s: the call is marked for returns alone\n") ≡ codes "{\"move\":2,\"pick\":7,\"event\":\"e\"}\n{\"move\":2,\"pick\":7,\"event\":\"e\",\"session\":\"s\",\"line\":\"the call has no mark\",\"mark\":\"none\"}\n{\"move\":2,\"pick\":7,\"event\":\"e\",\"session\":\"s\",\"line\":\"the call is marked for returns alone\",\"mark\":\"for returns alone\"}\n"
+unfolding digits print_from escape_byte after_number
+no_mark_rows = refl
+
+-- a message that isn't sent
+unsent_rows : account_json (codes "2 7 e\n  s: silent\n  s: message false\n  s: past a limit: a process has at most 64 frames\n") ≡ codes "{\"move\":2,\"pick\":7,\"event\":\"e\"}\n{\"move\":2,\"pick\":7,\"event\":\"e\",\"session\":\"s\",\"line\":\"silent\",\"silent\":true}\n{\"move\":2,\"pick\":7,\"event\":\"e\",\"session\":\"s\",\"line\":\"message false\",\"message\":false}\n{\"move\":2,\"pick\":7,\"event\":\"e\",\"session\":\"s\",\"line\":\"past a limit: a process has at most 64 frames\",\"past_limit\":\"a process has at most 64 frames\"}\n"
+unfolding digits print_from escape_byte after_number
+unsent_rows = refl
+
+-- what a running node does otherwise
+node_rows : account_json (codes "2 7 e\n  s: - {a,b}\n  s: + replies 1\n  s: on a node: silent\n") ≡ codes "{\"move\":2,\"pick\":7,\"event\":\"e\"}\n{\"move\":2,\"pick\":7,\"event\":\"e\",\"session\":\"s\",\"line\":\"- {a,b}\",\"node_lacks\":\"{a,b}\"}\n{\"move\":2,\"pick\":7,\"event\":\"e\",\"session\":\"s\",\"line\":\"+ replies 1\",\"node_has\":\"replies 1\"}\n{\"move\":2,\"pick\":7,\"event\":\"e\",\"session\":\"s\",\"line\":\"on a node: silent\",\"on_a_node\":\"silent\"}\n"
+unfolding digits print_from escape_byte after_number
+node_rows = refl
+
 -- a token at a place, and a script that is too long
 refusal_at_place : refusal_json (codes "refused 2 17\n") (codes ":3:12: a term expected, found ']'") ≡ codes "{\"refused\":2,\"line\":\"refused 2 17\",\"place\":\"3:12\",\"why\":\"a term expected, found ']'\"}\n"
 unfolding digits print_from escape_byte after_number

@@ -4,4 +4,8 @@ mod OutputSections
 mod AtomTexts
 mod Longest
 mod ReadRows
+mod LoadRows
+mod ShownLines
 mod MessageTexts
+pub mod MessageMoves
+mod MovedRows

@@ -4,6 +4,7 @@ use Rattle.std.proofs.lemmas.Bool.{and_parts}
 use Rattle.std.proofs.lemmas.List.Elements.{All-nil, All-cons, All-head, All-tail}
 use Rattle.std.specs.Prelude.{nat_eq, codes}
 use Rattle.std.specs.List.{starts_with}
+use Rattle.std.specs.Str.{bytes_eq}
 use Rattle.json.specs.Json.{Json, null, boolean, number, string, array, object, Members, no_members, member}
 use Rattle.json.specs.Word.{after_number}
 use Rattle.json.specs.Tree.{depth, items_depth, members_depth, HasNumbers, ItemsHaveNumbers, MembersHaveNumbers}
@@ -12,19 +13,19 @@ use Rattle.json.proofs.Printed.Decimals.{IsNumber-decimal}
 use Rattle.def_formats.specs.Lines.{message_kind, message_pid, before_byte, past_byte, value_length}
 use Rattle.def_formats.specs.Sections.{session_section, replies_section, journal_section}
 use Rattle.def_formats.specs.Summaries.{journal_picks}
-use Rattle.def_formats.specs.JsonRows.{are_ascii, text_value, number_value, is_whole, numeral_value, items_from, numbered_rows, message_row, reply_row, line_row, journal_row, account_rows, is_indented, move_row, made_row, members_from, front_number, past_number, past_place, value_and_bound, value_members, condition_value, why_members, condition_members, fires_members, arrow_members, line_members, front_name, past_name}
+use Rattle.def_formats.specs.JsonRows.{are_ascii, text_value, number_value, is_whole, numeral_value, items_from, numbered_rows, message_row, reply_row, line_row, journal_row, account_rows, is_indented, move_row, made_row, members_from, front_number, past_number, past_place, value_and_bound, value_members, condition_value, why_members, condition_members, fires_members, arrow_members, line_members, front_name, past_name, why_after, reply_members, mark_members, cause_members, outside_members, account_members}
 use Rattle.def_formats.specs.RefusalRows.{refusal_number, noted_place, place_value}
 use Rattle.def_formats.specs.Laws.{IsReadBack, OutputRowsAreRead, AccountRowsAreRead, TextRowsAreRead, RefusalRowIsRead}
 
 -- a value that can be written, and nests so deep at most
-record IsShallow (k : ℕ) (v : Json) : Type 0 where
-  numbers : HasNumbers v
-  deep : depth v ≤ k
+pub record IsShallow (k : ℕ) (v : Json) : Type 0 where
+  pub numbers : HasNumbers v
+  pub deep : depth v ≤ k
 
 read_so : (k : ℕ) (v : Json) → k ≤ 128 → IsShallow k v → IsReadBack v
 read_so k v small h = document-print v h.numbers (omega (arith, small, h.deep))
 
-text_leaf : (text : List ℕ) → IsShallow 0 (text_value text)
+pub text_leaf : (text : List ℕ) → IsShallow 0 (text_value text)
 text_leaf text = by_form (are_ascii text)
   where
     by_form : (b : Bool) → IsShallow 0 (if b then string text else null)
@@ -43,11 +44,11 @@ numeral_leaf text = by_form (are_ascii text && is_whole (after_number text)) ref
     by_form true e = record { numbers = whole_number (after_number text) (and_parts (are_ascii text) (is_whole (after_number text)) e).1; deep = omega arith }
     by_form false e = text_leaf text
 
-number_leaf : (n : ℕ) → n < 2 ^ 64 → IsShallow 0 (number_value n)
+pub number_leaf : (n : ℕ) → n < 2 ^ 64 → IsShallow 0 (number_value n)
 number_leaf n small = record { numbers = IsNumber-decimal n small; deep = omega arith }
 
 -- each member's value
-abbrev AreShallow : ℕ → Members → Type 0
+abbrev pub AreShallow : ℕ → Members → Type 0
 AreShallow k no_members = Unit {0}
 AreShallow k (member name v ms) = IsShallow k v × AreShallow k ms
 
@@ -56,7 +57,7 @@ object_so : (k : ℕ) (ms : Members) → AreShallow k ms → MembersHaveNumbers 
 object_so k no_members h = (tt, omega arith)
 object_so k (member name v ms) h = let rest = object_so k ms h.1 in ((h.0.numbers, rest.0), omega (arith, h.0.deep, rest.1))
 
-object_read : (k : ℕ) (ms : Members) → k < 128 → AreShallow k ms → IsReadBack (object ms)
+pub object_read : (k : ℕ) (ms : Members) → k < 128 → AreShallow k ms → IsReadBack (object ms)
 object_read k ms small h = let parts = object_so k ms h in read_so (suc k) (object ms) (omega (arith, small)) (record { numbers = parts.0; deep = omega (arith, parts.1) })
 
 -- ---- the members of a line that explains
@@ -64,7 +65,7 @@ object_read k ms small h = let parts = object_so k ms h in read_so (suc k) (obje
 word_leaf : (b : Bool) → IsShallow 0 (boolean b)
 word_leaf b = record { numbers = tt; deep = omega arith }
 
-null_leaf : IsShallow 0 null
+pub null_leaf : IsShallow 0 null
 null_leaf = record { numbers = tt; deep = omega arith }
 
 either : (b : Bool) (ms ns : List (List ℕ × Json)) → AreShallow 0 (members_from ms) → AreShallow 0 (members_from ns) → AreShallow 0 (members_from (if b then ms else ns))
@@ -96,6 +97,44 @@ line_leaves line =
     either (starts_with nat_eq line (codes "clause ")) _ _ (numeral_leaf (front_number (drop 7 line)), fires_leaves (past_place (past_number (drop 7 line))))
     (either (starts_with nat_eq line (codes "=> ")) _ _ (arrow_leaves (drop 3 line)) (either (starts_with nat_eq line (codes "on a node: ")) _ [] (text_leaf (drop 11 line), tt) tt))
 
+-- ---- the members of a line of an account
+
+why_leaves : (text : List ℕ) → AreShallow 0 (members_from (why_after text))
+why_leaves text = either (starts_with nat_eq text (codes " ")) _ [] (text_leaf (drop 1 text), tt) tt
+
+reply_leaves : (text : List ℕ) → AreShallow 0 (members_from (reply_members text))
+reply_leaves text =
+    either (starts_with nat_eq text (codes "{")) _ ((codes "reply", text_value (before_byte 58 text)) ∷ why_after (past_byte 58 text))
+    (text_leaf text, tt) (text_leaf (before_byte 58 text), why_leaves (past_byte 58 text))
+
+mark_leaves : (line : List ℕ) → AreShallow 0 (members_from (mark_members line))
+mark_leaves line =
+    either (bytes_eq line (codes "the call is marked")) _ _ (text_leaf (codes "set"), tt)
+    (either (bytes_eq line (codes "the call is marked for exceptions")) _ _ (text_leaf (codes "set for exceptions"), tt)
+    (either (bytes_eq line (codes "the call has no mark")) _ _ (text_leaf (codes "none"), tt)
+    (either (bytes_eq line (codes "the call is marked for returns alone")) _ _ (text_leaf (codes "for returns alone"), tt)
+    (either (bytes_eq line (codes "the mark is gone")) _ (line_members line) (text_leaf (codes "gone"), tt) (line_leaves line)))))
+
+cause_leaves : (line : List ℕ) → AreShallow 0 (members_from (cause_members line))
+cause_leaves line =
+    either (bytes_eq line (codes "no clause fires")) _ _ (word_leaf false, tt)
+    (either (bytes_eq line (codes "silent")) _ _ (word_leaf true, tt)
+    (either (bytes_eq line (codes "message false")) _ _ (word_leaf false, tt)
+    (either (bytes_eq line (codes "the setting is false")) _ _ (text_leaf (codes "false"), tt)
+    (either (bytes_eq line (codes "the setting is global, and the call doesn't name the module")) _ (mark_members line) (text_leaf (codes "global"), tt) (mark_leaves line)))))
+
+outside_leaves : (line : List ℕ) → AreShallow 0 (members_from (outside_members line))
+outside_leaves line =
+    either (starts_with nat_eq line (codes "- ")) _ _ (text_leaf (drop 2 line), tt)
+    (either (starts_with nat_eq line (codes "+ ")) _ _ (text_leaf (drop 2 line), tt)
+    (either (starts_with nat_eq line (codes "past a limit: ")) _ (cause_members line) (text_leaf (drop 14 line), tt) (cause_leaves line)))
+
+account_leaves : (line : List ℕ) → AreShallow 0 (members_from (account_members line))
+account_leaves line =
+    either (starts_with nat_eq line (codes "replies ")) (reply_members (drop 8 line)) _ (reply_leaves (drop 8 line))
+    (either (starts_with nat_eq line (codes "no flag ")) _ _ (text_leaf (drop 8 line), tt)
+    (either (starts_with nat_eq line (codes "no setting for ")) _ (outside_members line) (text_leaf (drop 15 line), tt) (outside_leaves line)))
+
 items_so : (k : ℕ) (vs : List Json) → All (IsShallow k) vs → ItemsHaveNumbers (items_from vs) × (items_depth (items_from vs) ≤ k)
 items_so k [] h = (tt, omega arith)
 items_so k (v ∷ vs) h =
@@ -123,7 +162,7 @@ message_read : (name tracer : List ℕ) (n : ℕ) (line : List ℕ) → n < 2 ^ 
 message_read name tracer n line small =
     object_read 0 _ (omega arith) (text_leaf name, (text_leaf tracer, (number_leaf n small, (text_leaf (message_kind line), (text_leaf (message_pid line), (text_leaf line, tt))))))
 
-rows_read : (row : ℕ → List ℕ → Json) → ((n : ℕ) (line : List ℕ) → n < 2 ^ 64 → IsReadBack (row n line)) → (n : ℕ) (lines : List (List ℕ)) → length lines + n < 2 ^ 64 → All IsReadBack (numbered_rows row n lines)
+pub rows_read : (row : ℕ → List ℕ → Json) → ((n : ℕ) (line : List ℕ) → n < 2 ^ 64 → IsReadBack (row n line)) → (n : ℕ) (lines : List (List ℕ)) → length lines + n < 2 ^ 64 → All IsReadBack (numbered_rows row n lines)
 rows_read row h n [] small = All-nil IsReadBack
 rows_read row h n (l ∷ ls) small =
     All-cons IsReadBack (row n l) (numbered_rows row (suc n) ls) (h n l (omega (arith, small))) (rows_read row h (suc n) ls (omega (arith, small)))
@@ -145,7 +184,7 @@ move_read line = object_read 0 _ (omega arith) (numeral_leaf (before_byte 32 lin
 made_read : (move line : List ℕ) → IsReadBack (made_row move line)
 made_read move line =
     object_read 0 _ (omega arith)
-    (numeral_leaf (before_byte 32 move), (numeral_leaf (before_byte 32 (past_byte 32 move)), (text_leaf (past_byte 32 (past_byte 32 move)), (text_leaf (front_name (drop 2 line)), (text_leaf (past_name (drop 2 line)), line_leaves (past_name (drop 2 line)))))))
+    (numeral_leaf (before_byte 32 move), (numeral_leaf (before_byte 32 (past_byte 32 move)), (text_leaf (past_byte 32 (past_byte 32 move)), (text_leaf (front_name (drop 2 line)), (text_leaf (past_name (drop 2 line)), account_leaves (past_name (drop 2 line)))))))
 
 one_account_row : (move l : List ℕ) (ls : List (List ℕ)) (b : Bool) → All IsReadBack (account_rows move ls) → All IsReadBack (account_rows l ls)
     → All IsReadBack (if b then made_row move l ∷ account_rows move ls else move_row l ∷ account_rows l ls)

@@ -2,6 +2,7 @@
 -- Depends on the sections of an output, on the parts of a trace message's text and on the JSON of RFC 8259, by the kit's `json`.
 use Rattle.std.specs.Prelude.{ℕ, suc, ◌+◌, ◌==◌, nat_eq, nat_lt, Bool, true, false, ◌&&◌, ◌||◌, if◌then◌else◌, List, [], ◌∷◌, ◌++◌, length, map, flat_map, take, drop, Option, Some, None, codes, decimal}
 use Rattle.std.specs.List.{list_all, starts_with, before_first, position_or_len}
+use Rattle.std.specs.Str.{bytes_eq}
 use Rattle.json.specs.Json.{Json, null, boolean, number, string, array, object, Items, no_items, item, Members, no_members, member}
 use Rattle.json.specs.Word.{after_number}
 use Rattle.json.specs.Print.{print}
@@ -159,6 +160,54 @@ line_members line =
     if starts_with nat_eq line (codes "clause ") then clause_members (drop 7 line)
     else (if starts_with nat_eq line (codes "=> ") then arrow_members (drop 3 line) else node_members line)
 
+-- ---- a line of an account
+
+-- the reason of a reply, where there is one: after a colon and a blank
+abbrev pub why_after : List ℕ → List (List ℕ × Json)
+why_after text = if starts_with nat_eq text (codes " ") then (codes "why", text_value (drop 1 text)) ∷ [] else []
+
+-- a reply with its reason; a tuple has none
+abbrev pub reply_members : List ℕ → List (List ℕ × Json)
+reply_members text =
+    if starts_with nat_eq text (codes "{") then (codes "reply", text_value text) ∷ []
+    else (codes "reply", text_value (before_byte 58 text)) ∷ why_after (past_byte 58 text)
+
+-- the mark that a call gets, has or loses; of any other line what its first words say
+abbrev pub mark_members : List ℕ → List (List ℕ × Json)
+mark_members line =
+    if bytes_eq line (codes "the call is marked") then (codes "mark", text_value (codes "set")) ∷ []
+    else (if bytes_eq line (codes "the call is marked for exceptions") then (codes "mark", text_value (codes "set for exceptions")) ∷ []
+    else (if bytes_eq line (codes "the call has no mark") then (codes "mark", text_value (codes "none")) ∷ []
+    else (if bytes_eq line (codes "the call is marked for returns alone") then (codes "mark", text_value (codes "for returns alone")) ∷ []
+    else (if bytes_eq line (codes "the mark is gone") then (codes "mark", text_value (codes "gone")) ∷ []
+    else line_members line))))
+
+-- why there is no trace message, where the line is the reason as a whole
+abbrev pub cause_members : List ℕ → List (List ℕ × Json)
+cause_members line =
+    if bytes_eq line (codes "no clause fires") then (codes "fires", boolean false) ∷ []
+    else (if bytes_eq line (codes "silent") then (codes "silent", boolean true) ∷ []
+    else (if bytes_eq line (codes "message false") then (codes "message", boolean false) ∷ []
+    else (if bytes_eq line (codes "the setting is false") then (codes "setting", text_value (codes "false")) ∷ []
+    else (if bytes_eq line (codes "the setting is global, and the call doesn't name the module") then (codes "setting", text_value (codes "global")) ∷ []
+    else mark_members line))))
+
+-- a line that a running node lacks or has, or the limit that a step goes past
+abbrev pub outside_members : List ℕ → List (List ℕ × Json)
+outside_members line =
+    if starts_with nat_eq line (codes "- ") then (codes "node_lacks", text_value (drop 2 line)) ∷ []
+    else (if starts_with nat_eq line (codes "+ ") then (codes "node_has", text_value (drop 2 line)) ∷ []
+    else (if starts_with nat_eq line (codes "past a limit: ") then (codes "past_limit", text_value (drop 14 line)) ∷ []
+    else cause_members line))
+
+-- what a session makes of an event or a command: its reply, the flag or the setting that isn't there, or any other
+abbrev pub account_members : List ℕ → List (List ℕ × Json)
+account_members line =
+    if starts_with nat_eq line (codes "replies ") then reply_members (drop 8 line)
+    else (if starts_with nat_eq line (codes "no flag ") then (codes "no_flag", text_value (drop 8 line)) ∷ []
+    else (if starts_with nat_eq line (codes "no setting for ") then (codes "no_setting", text_value (drop 15 line)) ∷ []
+    else outside_members line))
+
 -- ---- an account
 
 -- what a session makes of a move is indented
@@ -186,7 +235,7 @@ past_name text = drop (atom_length text + 2) text
 abbrev pub made_row : (move line : List ℕ) → Json
 made_row move line =
     let rest : List ℕ = drop 2 line in
-    object_from (move_members move ++ (codes "session", text_value (front_name rest)) ∷ (codes "line", text_value (past_name rest)) ∷ line_members (past_name rest))
+    object_from (move_members move ++ (codes "session", text_value (front_name rest)) ∷ (codes "line", text_value (past_name rest)) ∷ account_members (past_name rest))
 
 -- a row for each line, with the move before it
 abbrev pub account_rows : List ℕ → List (List ℕ) → List Json

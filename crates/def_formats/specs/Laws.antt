@@ -1,6 +1,6 @@
 -- What is promised of the formats (own).
 -- Depends on the output of an accepted script, on the texts of atoms and on the JSON of RFC 8259, by the kit's `json`.
-use Rattle.std.specs.Prelude.{◌≡◌, ◌==◌, ◌<◌, ◌≤◌, ◌-◌, ◌+◌, ◌^◌, ◌⊎◌, ℕ, true, false, not, List, [], ◌∷◌, ◌++◌, All, length, map, flat_map, slice_get, Some, codes}
+use Rattle.std.specs.Prelude.{◌≡◌, ◌==◌, ◌<◌, ◌≤◌, ◌-◌, ◌+◌, ◌^◌, ◌⊎◌, ℕ, true, false, not, List, [], ◌∷◌, ◌++◌, All, length, map, flat_map, sum, get_or, slice_get, Some, codes}
 use Rattle.std.specs.List.{list_all}
 use Rattle.json.specs.Json.{Json, document}
 use Rattle.json.specs.Print.{print}
@@ -18,6 +18,10 @@ use Rattle.def_formats.specs.Sections.{is_section_head, by_sections, Section, se
 use Rattle.def_formats.specs.Summaries.{NumberedLine, longest, kinds_of_signals, kinds_of_calls, kinds_of_processes, kinds_of_links}
 use Rattle.def_formats.specs.JsonRows.{rows_by, account_rows, numbered_rows, line_row}
 use Rattle.def_formats.specs.RefusalRows.{refusal_row}
+use Rattle.def_formats.specs.Colours.{text_without_colours, coloured_line}
+use Rattle.def_formats.specs.LoadRows.{load_rows_by}
+use Rattle.def_formats.specs.MessageMoves.{message_moves, IsMessageMove}
+use Rattle.def_formats.specs.MovedRows.{moved_rows_by, journal_text}
 
 -- ---- names
 
@@ -77,6 +81,18 @@ MessageIsRead =
 abbrev pub KindsHaveNoComma : Type 0
 KindsHaveNoComma = list_all (λ kind. list_all (λ b. not (b == 44)) kind) (kinds_of_signals ++ kinds_of_calls ++ kinds_of_processes ++ kinds_of_links) ≡ true
 
+-- ---- the moves of messages
+
+-- each message has a move: the one before which it isn't there, and after which it is
+abbrev pub EachMessageHasItsMove : Type 0
+EachMessageHasItsMove =
+    (s : Name) (p : Program) (picks : List ℕ) → (length (message_moves s p picks) ≡ length (messages s p picks))
+    × ((k : ℕ) → k < length (messages s p picks) → IsMessageMove s p picks k (get_or (message_moves s p picks) k 0))
+
+-- the line of the journal is read of an output as it is written there
+abbrev pub JournalIsRead : Type 0
+JournalIsRead = (p : Program) (picks : List ℕ) → HasLines p picks → journal_text (program_output p picks) ≡ picks_text (moves p picks)
+
 -- ---- the greatest message
 
 -- no message is longer, and it is the one of its number, if there is a message that isn't empty
@@ -97,6 +113,16 @@ IsReadBack v = document (print (json_tokens v)) ≡ Some v
 abbrev pub OutputRowsAreRead : Type 0
 OutputRowsAreRead = (s : Section) (lines : List (List ℕ)) → length lines + 1 < 2 ^ 64 → All IsReadBack (rows_by s lines)
 
+-- with the moves of its messages too
+abbrev pub MovedRowsAreRead : Type 0
+MovedRowsAreRead =
+    (moves : List ℕ) (s : Section) (lines : List (List ℕ)) → length lines + 1 < 2 ^ 64 → ((n m : ℕ) → slice_get moves n ≡ Some m → m < 2 ^ 64)
+    → All IsReadBack (moved_rows_by moves s lines)
+
+-- and each row of its summary, where its lines have fewer than 2^64 bytes too
+abbrev pub LoadRowsAreRead : Type 0
+LoadRowsAreRead = (s : Section) (lines : List (List ℕ)) → length lines + sum (map length lines) + 1 < 2 ^ 64 → All IsReadBack (load_rows_by s lines)
+
 -- and each row of an account
 abbrev pub AccountRowsAreRead : Type 0
 AccountRowsAreRead = (move : List ℕ) (lines : List (List ℕ)) → All IsReadBack (account_rows move lines)
@@ -108,3 +134,13 @@ TextRowsAreRead = (lines : List (List ℕ)) → length lines + 1 < 2 ^ 64 → Al
 -- and the row of a refusal
 abbrev pub RefusalRowIsRead : Type 0
 RefusalRowIsRead = (line note : List ℕ) → IsReadBack (refusal_row line note)
+
+-- ---- colours
+
+-- the text has no escape
+abbrev pub HasNoEscape : List ℕ → Type 0
+HasNoEscape text = list_all (λ b. not (b == 27)) text ≡ true
+
+-- a terminal shows a line in colours as the line
+abbrev pub ColouredLineIsShown : Type 0
+ColouredLineIsShown = (line : List ℕ) → HasNoEscape line → text_without_colours false (coloured_line line) ≡ line ++ 10 ∷ []

@@ -2,6 +2,10 @@ pub mod Lines
 pub mod Sections
 pub mod Summaries
 pub mod JsonRows
+pub mod LoadRows
+pub mod MessageMoves
+pub mod MovedRows
 pub mod RefusalRows
+pub mod Colours
 pub mod Formats
 pub mod Laws

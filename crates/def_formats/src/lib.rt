@@ -3,13 +3,16 @@
 //! Depends on the output of a run, of `def_run`, on the texts of terms of `def_term`, and on the kit's `json` for the
 //! JSON of RFC 8259. Defines both as functions of the plain text. Promises, as laws, that what is made of the sections
 //! of a run's output is made of its messages, its replies and its moves; that names, pids and kinds are read of a line
-//! as they are written in it; that the greatest message is as long as any; and that each row of JSON is one JSON text.
+//! as they are written in it; that each message has its move; that the greatest message is as long as any; that each
+//! row of JSON is one JSON text; and that a terminal shows a line in colours as the line.
 //! There is no code.
 #![tactic(auto)]
 
 ghost use Rattle.def_formats.specs.Laws.{SectionsAreOfTheRun, SessionHeadIsRead, AtomIsCut};
 ghost use Rattle.def_formats.specs.Laws.{MessageIsRead, KindsHaveNoComma, LongestIsLongest};
-ghost use Rattle.def_formats.specs.Laws.{OutputRowsAreRead, AccountRowsAreRead, TextRowsAreRead, RefusalRowIsRead};
+ghost use Rattle.def_formats.specs.Laws.{OutputRowsAreRead, LoadRowsAreRead, AccountRowsAreRead, TextRowsAreRead};
+ghost use Rattle.def_formats.specs.Laws.{RefusalRowIsRead, MovedRowsAreRead, EachMessageHasItsMove};
+ghost use Rattle.def_formats.specs.Laws.{ColouredLineIsShown, JournalIsRead};
 
 /// What is made of the sections of a run's output is made of the messages of its sessions, its replies and its moves,
 /// where no text of it has a line feed or begins a section.
@@ -30,6 +33,13 @@ pub fn a_message_is_read_as_it_is_written()
     ensures kinds { KindsHaveNoComma }
 {}
 
+/// Each message of a listing has a move: the one before which it isn't there, and after which it is. The journal by
+/// which the moves are found is read of an output as it is written there.
+pub fn each_message_has_its_move()
+    ensures moves { EachMessageHasItsMove }
+    ensures journal { JournalIsRead }
+{}
+
 /// No message is longer than the greatest one, which is the one of its number.
 pub fn the_greatest_message_is_as_long_as_any()
     ensures { LongestIsLongest }
@@ -38,7 +48,14 @@ pub fn the_greatest_message_is_as_long_as_any()
 /// Each row of JSON is one JSON text, which is read as the value that the row is defined as.
 pub fn a_row_is_one_json_text()
     ensures output { OutputRowsAreRead }
+    ensures moved { MovedRowsAreRead }
+    ensures load { LoadRowsAreRead }
     ensures account { AccountRowsAreRead }
     ensures text { TextRowsAreRead }
     ensures refusal { RefusalRowIsRead }
+{}
+
+/// A terminal shows a line in colours as the line.
+pub fn a_coloured_line_is_shown()
+    ensures { ColouredLineIsShown }
 {}

@@ -16,16 +16,16 @@ use Rattle.def_message_choice.specs.Laws.{NoAccountWhereNoneIsChosen}
 abbrev of_all_moves : Option Name → Filter
 of_all_moves n = record { session = n; move = None }
 
-no-begin : (a b : List ℕ) → a ++ b ≡ [] → a ≡ []
+pub no-begin : (a b : List ℕ) → a ++ b ≡ [] → a ≡ []
 no-begin [] b h = refl
 no-begin (x ∷ a) b h = absurd (cc h)
 
-no-end : (a b : List ℕ) → a ++ b ≡ [] → b ≡ []
+pub no-end : (a b : List ℕ) → a ++ b ≡ [] → b ≡ []
 no-end [] b h = h
 no-end (x ∷ a) b h = absurd (cc h)
 
 -- the text of a move isn't empty
-some-text : (k pick : ℕ) (rest : List ℕ) → move_text k pick rest ≡ [] → ⊥
+pub some-text : (k pick : ℕ) (rest : List ℕ) → move_text k pick rest ≡ [] → ⊥
 some-text k pick rest e = cc (no-end (decimal k ++ 32 ∷ decimal pick ++ rest) (10 ∷ []) e)
 
 -- a move has a line at least

@@ -1,4 +1,4 @@
--- Worked rows: the accounts of the moves that are chosen by a message.
+-- Worked rows: the accounts of the moves that are asked for by a message.
 use Rattle.std.proofs.Common.{◌≡◌, ℕ, List, [], ◌∷◌, Some, None, codes, refl}
 use Prim.Native.String.{String}
 use Rattle.std.specs.Fmt.{digits}
@@ -10,7 +10,8 @@ use Rattle.def_script.specs.Program.{Program, send}
 use Rattle.def_run.proofs.Samples.{braces, brackets, number, function, entry, program, creates, destroys, sets, lines}
 use Rattle.def_explain.specs.RunTexts.{Filter}
 use Rattle.def_message_choice.specs.MessageChoices.{sends, sends_none}
-use Rattle.def_message_choice.specs.ChosenAccounts.{chosen_account_text}
+use Rattle.def_message_choice.specs.MessageNumbers.{move_of_message}
+use Rattle.def_message_choice.specs.ChosenAccounts.{chosen_account_text, number_account_text}
 
 -- ---- words
 
@@ -106,3 +107,59 @@ pub not_there_again : chosen_account_text (sends_none a_send) any_session destro
     ≡ lines ("5 100 <0.100.0> send hi <0.101.0>" ∷ "5 100 <0.101.0> 'receive' hi" ∷ [])
 unfolding is_written_bare digits
 not_there_again = refl
+
+-- ---- the message of a number
+
+-- one session traces sends and receives, so that it sends two messages at a move; the other traces sends alone
+abbrev two_traces : Program
+two_traces = program (function "go" [] (send (pid 101) (word "hi") ∷ send (pid 101) (word "ho") ∷ []) ∷ function "peer" [] [] ∷ []) (entry "go" [] ∷ entry "peer" [] ∷ [])
+    (creates "s1" "t1" ∷ creates "s2" "t2" ∷ sets "s1" (word "all") ("send" ∷ "receive" ∷ []) ∷ sets "s2" (word "all") ("send" ∷ []) ∷ [])
+
+abbrev all_picks : List ℕ
+all_picks = 0 ∷ 0 ∷ 0 ∷ 0 ∷ 100 ∷ 100 ∷ 100 ∷ []
+
+-- its first and second messages are of one move, and its third is of the next
+pub first_of_two : move_of_message (codes "s1") 1 two_traces all_picks ≡ Some 6
+unfolding is_written_bare digits
+first_of_two = refl
+
+pub second_of_two : move_of_message (codes "s1") 2 two_traces all_picks ≡ Some 6
+unfolding is_written_bare digits
+second_of_two = refl
+
+pub third_of_two : move_of_message (codes "s1") 3 two_traces all_picks ≡ Some 7
+unfolding is_written_bare digits
+third_of_two = refl
+
+-- the other sends one at each
+pub second_of_the_other : move_of_message (codes "s2") 2 two_traces all_picks ≡ Some 7
+unfolding is_written_bare digits
+second_of_the_other = refl
+
+-- it sends no third one, no session has one of the number 0, and one that isn't created has none
+pub no_third_of_the_other : move_of_message (codes "s2") 3 two_traces all_picks ≡ None
+unfolding is_written_bare digits
+no_third_of_the_other = refl
+
+pub none_of_zero : move_of_message (codes "s1") 0 two_traces all_picks ≡ None
+unfolding is_written_bare digits
+none_of_zero = refl
+
+pub none_of_nobody : move_of_message (codes "s3") 1 two_traces all_picks ≡ None
+unfolding is_written_bare digits
+none_of_nobody = refl
+
+-- what it makes of that move
+pub why_the_second : number_account_text 2 (only_session "s2") two_traces all_picks
+    ≡ lines ("7 100 <0.100.0> send ho <0.101.0>" ∷ "  s2: => {trace,<0.100.0>,send,ho,<0.101.0>}" ∷ "7 100 <0.101.0> 'receive' ho" ∷ "  s2: no flag 'receive'" ∷ [])
+unfolding is_written_bare digits
+why_the_second = refl
+
+-- no line where there is no such message, and where no session is asked about
+pub no_account_of_a_third : number_account_text 3 (only_session "s2") two_traces all_picks ≡ []
+unfolding is_written_bare digits
+no_account_of_a_third = refl
+
+pub no_account_of_any : number_account_text 1 any_session two_traces all_picks ≡ []
+unfolding is_written_bare digits
+no_account_of_any = refl

@@ -1,5 +1,5 @@
--- What is promised of the moves that are chosen by a message (own).
--- Depends on which moves are chosen, on their account, and on listings.
+-- What is promised of the moves that are asked for by a message (own).
+-- Depends on which moves are chosen, on the move of the message of a number, on their accounts, and on listings.
 use Rattle.std.specs.Prelude.{◌≡◌, ◌↔◌, ℕ, Bool, true, false, List, [], Option, Some, None}
 use Rattle.std.specs.List.{list_any}
 use Rattle.def_term.specs.Names.{Name}
@@ -16,7 +16,8 @@ use Rattle.def_run.specs.Listing.{messages}
 use Rattle.def_explain.specs.RunLaws.{IsOnce}
 use Rattle.def_explore.specs.Words.{is_match}
 use Rattle.def_message_choice.specs.MessageChoices.{MessageChoice, sends, flag_message, Sends, SendsNone, IsChosen, is_chosen}
-use Rattle.def_message_choice.specs.ChosenAccounts.{chosen_account_text}
+use Rattle.def_message_choice.specs.MessageNumbers.{message_of_number, IsMoveOfMessage, move_of_message}
+use Rattle.def_message_choice.specs.ChosenAccounts.{chosen_account_text, number_account_text}
 
 -- what is computed is whether a move is chosen
 abbrev pub ChoiceIsComputed : Type 0
@@ -56,3 +57,19 @@ abbrev pub NoAccountWhereNoneIsChosen : Type 0
 NoAccountWhereNoneIsChosen =
     (c : MessageChoice) (n : Option Name) (p : Program) (picks : List ℕ) →
     (chosen_account_text c (record { session = n; move = None }) p picks ≡ []) ↔ (list_any (is_chosen c n) (move_histories p picks) ≡ false)
+
+-- ---- the message of a number
+
+-- what is computed is the move at which the session sends it
+abbrev pub MoveOfMessageIsComputed : Type 0
+MoveOfMessageIsComputed = (s : Name) (k : ℕ) (p : Program) (picks : List ℕ) (m : ℕ) → (move_of_message s k p picks ≡ Some m) ↔ IsMoveOfMessage s k p picks m
+
+-- there is none exactly where the listing of the session has no message of this number
+abbrev pub NoMoveWhereNoMessage : Type 0
+NoMoveWhereNoMessage = (s : Name) (k : ℕ) (p : Program) (picks : List ℕ) → (move_of_message s k p picks ≡ None) ↔ (message_of_number k (messages s p picks) ≡ None)
+
+-- and there the account of the move is empty
+abbrev pub NoAccountWhereNoMessage : Type 0
+NoAccountWhereNoMessage =
+    (s : Name) (k : ℕ) (p : Program) (picks : List ℕ) →
+    (number_account_text k (record { session = Some s; move = None }) p picks ≡ []) ↔ (message_of_number k (messages s p picks) ≡ None)

@@ -1,3 +1,4 @@
 pub mod MessageChoices
+pub mod MessageNumbers
 pub mod ChosenAccounts
 pub mod Laws

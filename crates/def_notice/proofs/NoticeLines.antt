@@ -4,7 +4,7 @@ use Rattle.def_text.specs.Places.{line_feeds}
 use Rattle.def_text.proofs.Columns.{line_feeds-append}
 use Rattle.def_notice.specs.FaultTexts.{FaultSaid, of_reading, of_writing, of_memory, of_workers, of_bytes, of_listings, of_expectation, output_text, fault_text}
 use Rattle.def_notice.specs.DifferenceTexts.{Side, expected_output, found_output, OutputDifference, one_line, two_lines, lines_without_text, last_line_feed, no_line, end_of_output, more_lines, more_differences, line_with_return, AlignedSide, of_both, of_expected, of_found, LineRange, range_text, aligned_sign, aligned_output, aligned_ranges, aligned_line, side_text, numbered_line, output_difference_text}
-use Rattle.def_notice.specs.NoticeTexts.{NodeCommand, by_same_picks, by_journal, node_command_text, TestText, the_list, the_caller, the_specification, test_text_name, TestTextFault, is_no_list, is_no_function, is_too_long, goes_on_otherwise, is_too_deep, is_too_large, has_no_memory, fault_in_words, test_fault_text, InputText, the_script, the_picks, the_moves, the_output, the_listing, input_text_name, Notice, given_line, of_fault, of_fault_because, no_file, both_from_input, no_value, of_test_text, no_session, no_move, no_node_move, no_chosen_move, no_forms, pick_of_nobody, node_moves, of_difference, lacks_a_line, has_a_line, lacks_a_listing, notice_text}
+use Rattle.def_notice.specs.NoticeTexts.{NodeCommand, by_same_picks, by_journal, node_command_text, TestText, the_list, the_caller, the_specification, test_text_name, TestTextFault, is_no_list, is_no_function, is_too_long, goes_on_otherwise, is_too_deep, is_too_large, has_no_memory, fault_in_words, test_fault_text, InputText, the_script, the_picks, the_moves, the_output, the_listing, input_text_name, Notice, given_line, of_fault, of_fault_because, no_file, both_from_input, no_value, of_test_text, no_session, no_message, no_move, no_node_move, no_chosen_move, no_forms, pick_of_nobody, node_moves, of_difference, lacks_a_line, has_a_line, lacks_a_listing, notice_text}
 use Rattle.def_notice.specs.NoticeLaws.{words_of_test_fault, words_of_notice, line_feeds_of_notice}
 use Rattle.def_notice.proofs.LineFeeds.{decimal_has_none}
 
@@ -185,6 +185,23 @@ moves_of_run_are_a_line n None = before_none (decimal n) [] refl ∙ decimal_has
 moves_of_run_are_a_line n (Some zero) = before_none (decimal n) (codes ": it has none") refl ∙ decimal_has_none n
 moves_of_run_are_a_line n (Some (suc m)) = before_none (decimal n) (codes ": its moves are 1 to " ++ decimal (suc m)) (decimal_has_none (suc m)) ∙ decimal_has_none n
 
+messages_are_a_line : (session : List ℕ) (n : ℕ) (messages : Option ℕ) → line_feeds (notice_text (no_message session n messages)) ≡ line_feeds session + 0
+messages_are_a_line session n messages = go messages
+  where
+    said : (more : List ℕ) → line_feeds more ≡ 0 → line_feeds (codes "error: the session " ++ session ++ codes " sends no message " ++ decimal n ++ more) ≡ line_feeds session + 0
+    said more none =
+        let begun : List ℕ = codes "error: the session " ++ session ++ codes " sends no message " in
+        let whole : line_feeds (codes "error: the session " ++ session ++ codes " sends no message " ++ decimal n ++ more) ≡ line_feeds (begun ++ decimal n) = before_none (begun ++ decimal n) more none in
+        let number : line_feeds (begun ++ decimal n) ≡ line_feeds begun = before_none begun (decimal n) (decimal_has_none n) in
+        let first : line_feeds begun ≡ line_feeds (codes "error: the session " ++ session) = before_none (codes "error: the session " ++ session) (codes " sends no message ") refl in
+        let name : line_feeds (codes "error: the session " ++ session) ≡ line_feeds session = refl in
+        omega (arith, whole, number, first, name)
+
+    go : (m : Option ℕ) → line_feeds (notice_text (no_message session n m)) ≡ line_feeds session + 0
+    go None = said [] refl
+    go (Some zero) = said (codes ": it sends none") refl
+    go (Some (suc m)) = said (codes ": its messages are 1 to " ++ decimal (suc m)) (decimal_has_none (suc m))
+
 pub notice_is_a_line : (n : Notice) → line_feeds (notice_text n) ≡ line_feeds (words_of_notice n) + line_feeds_of_notice n
 notice_is_a_line (given_line line) = omega arith
 notice_is_a_line (of_fault f) = fault_is_a_line f
@@ -197,6 +214,7 @@ notice_is_a_line (of_test_text t f) = test_is_a_line t f
 notice_is_a_line (no_session name None) = before_none name [] refl ∙ omega arith
 notice_is_a_line (no_session name (Some sessions)) = sessions_are_a_line name sessions
 notice_is_a_line (no_move n moves) = moves_of_run_are_a_line n moves
+notice_is_a_line (no_message session n messages) = messages_are_a_line session n messages
 notice_is_a_line no_node_move = refl
 notice_is_a_line no_chosen_move = refl
 notice_is_a_line no_forms = refl

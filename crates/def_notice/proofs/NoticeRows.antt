@@ -7,7 +7,7 @@ use Rattle.def_text.specs.Places.{place_at}
 use Rattle.def_notice.specs.FaultTexts.{of_reading, of_writing, of_memory, of_workers, of_bytes, of_listings, of_expectation, broken_pipe, refused_memory}
 use Rattle.def_notice.specs.MovesTexts.{MovesReason, no_mover, no_number, no_count, no_start, many_starts, too_many_bytes, no_directive_at, bad_moves_text}
 use Rattle.def_notice.specs.DifferenceTexts.{expected_output, found_output, one_line, two_lines, lines_without_text, last_line_feed, no_line, end_of_output, more_lines, more_differences, line_with_return, return_difference, of_both, of_expected, of_found, aligned_output, aligned_ranges, aligned_line}
-use Rattle.def_notice.specs.NoticeTexts.{by_same_picks, by_journal, the_list, the_caller, the_specification, is_no_list, is_no_function, is_too_long, is_too_deep, fault_in_words, the_script, the_picks, the_moves, the_output, the_listing, Notice, of_fault, of_fault_because, no_file, both_from_input, no_value, of_test_text, no_session, no_move, no_node_move, no_chosen_move, no_forms, pick_of_nobody, node_moves, of_difference, lacks_a_line, has_a_line, lacks_a_listing, notice_text, notice_of_fault}
+use Rattle.def_notice.specs.NoticeTexts.{by_same_picks, by_journal, the_list, the_caller, the_specification, is_no_list, is_no_function, is_too_long, is_too_deep, fault_in_words, the_script, the_picks, the_moves, the_output, the_listing, Notice, of_fault, of_fault_because, no_file, both_from_input, no_value, of_test_text, no_session, no_message, no_move, no_node_move, no_chosen_move, no_forms, pick_of_nobody, node_moves, of_difference, lacks_a_line, has_a_line, lacks_a_listing, notice_text, notice_of_fault}
 
 -- this is the line
 abbrev Says : Notice → String → Type 0
@@ -109,6 +109,18 @@ move_past_the_last = refl
 move_of_none : Says (no_move 1 (Some 0)) "error: the run has no move 1: it has none"
 unfolding digits
 move_of_none = refl
+
+message_too_far : Says (no_message (codes "s") 9 None) "error: the session s sends no message 9"
+unfolding digits
+message_too_far = refl
+
+message_past_the_last : Says (no_message (codes "s") 9 (Some 3)) "error: the session s sends no message 9: its messages are 1 to 3"
+unfolding digits
+message_past_the_last = refl
+
+message_of_none : Says (no_message (codes "s") 1 (Some 0)) "error: the session s sends no message 1: it sends none"
+unfolding digits
+message_of_none = refl
 
 nothing_otherwise : Says no_node_move "note: a running node is known to do nothing otherwise there"
 nothing_otherwise = refl

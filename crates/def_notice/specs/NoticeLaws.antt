@@ -4,7 +4,7 @@ use Rattle.std.specs.Prelude.{◌≡◌, ◌↔◌, ◌+◌, ℕ, List, [], ◌�
 use Rattle.def_text.specs.Places.{line_feeds}
 use Rattle.def_notice.specs.FaultTexts.{FaultSaid, SystemReason, broken_pipe}
 use Rattle.def_notice.specs.DifferenceTexts.{OutputDifference, one_line, two_lines, aligned_line}
-use Rattle.def_notice.specs.NoticeTexts.{Notice, given_line, of_fault_because, no_file, no_value, TestTextFault, fault_in_words, of_test_text, no_session, of_difference, lacks_a_line, has_a_line, lacks_a_listing, notice_text, notice_of_fault}
+use Rattle.def_notice.specs.NoticeTexts.{Notice, given_line, of_fault_because, no_file, no_value, TestTextFault, fault_in_words, of_test_text, no_session, no_message, of_difference, lacks_a_line, has_a_line, lacks_a_listing, notice_text, notice_of_fault}
 
 -- the words that a line of a difference is given
 abbrev pub words_of_difference : OutputDifference → List ℕ
@@ -28,6 +28,7 @@ words_of_notice (no_value text option reason) = text ++ option ++ reason
 words_of_notice (of_test_text text f) = words_of_test_fault f
 words_of_notice (no_session name None) = name
 words_of_notice (no_session name (Some sessions)) = name ++ sessions
+words_of_notice (no_message session n messages) = session
 words_of_notice (of_difference x) = words_of_difference x
 words_of_notice (lacks_a_line line) = line
 words_of_notice (has_a_line line) = line

@@ -82,10 +82,11 @@ pub data Notice : Type 0 where
   no_value : (text option reason : List ℕ) → Notice
   -- a text of the test of a match specification
   of_test_text : TestText → TestTextFault → Notice
-  -- what is asked of an account: there is no such session, no such move, and no move at which a running node differs;
-  -- where it is known, which sessions are created, and how many moves there are
+  -- what is asked of an account: there is no such session, no such move, no such message of the session, and no move at which a running node differs;
+  -- where it is known, which sessions are created, and how many moves or messages there are
   no_session : (name : List ℕ) → (sessions : Option (List ℕ)) → Notice
   no_move : (number : ℕ) → (moves : Option ℕ) → Notice
+  no_message : (session : List ℕ) → (number : ℕ) → (messages : Option ℕ) → Notice
   no_node_move : Notice
   no_chosen_move : Notice
   -- of a run
@@ -110,6 +111,12 @@ moves_text None = []
 moves_text (Some zero) = codes ": it has none"
 moves_text (Some (suc n)) = codes ": its moves are 1 to " ++ decimal (suc n)
 
+-- which messages a session sends
+abbrev pub messages_text : Option ℕ → List ℕ
+messages_text None = []
+messages_text (Some zero) = codes ": it sends none"
+messages_text (Some (suc n)) = codes ": its messages are 1 to " ++ decimal (suc n)
+
 -- a file that can't be opened; it may have no name
 abbrev pub no_file_text : (path reason : List ℕ) → List ℕ
 no_file_text [] reason = codes "error: the name of a file is empty"
@@ -128,6 +135,7 @@ notice_text (no_value text option reason) =
 notice_text (of_test_text text f) = test_text_name text ++ codes ": " ++ test_fault_text f
 notice_text (no_session name sessions) = codes "error: the script creates no session " ++ name ++ known_sessions_text sessions
 notice_text (no_move n moves) = codes "error: the run has no move " ++ decimal n ++ moves_text moves
+notice_text (no_message session n messages) = codes "error: the session " ++ session ++ codes " sends no message " ++ decimal n ++ messages_text messages
 notice_text no_node_move = codes "note: a running node is known to do nothing otherwise there"
 notice_text no_chosen_move = codes "error: the pattern selects no move of the run"
 notice_text no_forms = codes "note: the script has no forms"

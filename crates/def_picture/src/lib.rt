@@ -1,8 +1,8 @@
-//! The picture of a run, and its text as a graphic and for a terminal.
+//! The picture of a run, and its text as a graphic, for a terminal and as JSON.
 //!
-//! Depends on def_run. Promises, as laws: each event and command of a run has a row; the messages of a session in the
-//! rows are the lines of its listing, and there is no other; a frame is in its process's column; and the content of an
-//! element has no markup.
+//! Depends on def_run, on def_formats, and on the kit's `json` for the JSON of RFC 8259. Promises, as laws: each event
+//! and command of a run has a row; the messages of a session in the rows are the lines of its listing, and there is no
+//! other; a frame is in its process's column; and the content of an element has no markup.
 #![tactic(auto)]
 
 ghost use Rattle.def_picture.specs.Laws.{PictureShowsTheEvents, PictureShowsTheListing, PictureShowsSessionsAlone};

@@ -1,9 +1,10 @@
 -- What the words of the command line ask for (own).
 -- Depends on what `clap` found in the words: the text that each option and each word without a name has.
-use Rattle.std.specs.Prelude.{◌≡◌, ◌≢◌, ◌≤◌, ◌-◌, ◌==◌, ◌&&◌, ◌++◌, ℕ, Bool, true, false, not, List, [], ◌∷◌, Option, Some, None, Result, Ok}
+use Rattle.std.specs.Prelude.{◌≡◌, ◌≢◌, ◌≤◌, ◌-◌, ◌==◌, ◌&&◌, ◌||◌, ◌++◌, ℕ, Bool, true, false, not, List, [], ◌∷◌, Option, Some, None, Result, Ok}
 use Rattle.std.specs.Prelude.{MatchResult, IsSomeAnd, ◌⊎◌, option_map, unwrap_or, if◌then◌else◌, take, drop, length, codes}
 use Rattle.std.specs.List.{list_all}
-use Rattle.std.specs.Option.{option_map_or}
+use Rattle.std.specs.Option.{is_some, option_map_or}
+use Rattle.def_term.specs.Text.{is_digit}
 use Rattle.std.specs.Str.Parse.{digits_value}
 use Rattle.std.specs.Str.{bytes_eq}
 use Rattle.std.specs.Borrow.{Bor}
@@ -12,6 +13,8 @@ use Rattle.tn_answers.specs.declared.form.AnswerForm.{AnswerForm}
 use Rattle.tn_answers.specs.declared.form.AnswerForm.TheVariants as forms
 use Rattle.clap.specs.Words.{found_of, first_value, matched_of, raw_values, rows_of, subcommand_name_of, subcommand_rows_of}
 use Rattle.tn_explain.specs.declared.filter.Filter.{Filter}
+use Rattle.tn_message_choice.specs.declared.choice.MessageFilter.{MessageFilter}
+use Rattle.tn_message_choice.specs.declared.choice.MessageFilter.TheVariants as filters
 use Rattle.tn_state.specs.declared.request.StateQuestion.{StateQuestion}
 use Rattle.tn_exploration.specs.declared.request.RandomRuns.{RandomRuns}
 use Rattle.tn_command.specs.declared.source.Source.{Source}
@@ -21,7 +24,7 @@ use Rattle.tn_command.specs.Numbers.{IsPlainNumber}
 use Rattle.tn_spec.specs.declared.func.Dialect.{Dialect}
 use Rattle.tn_spec.specs.declared.func.Dialect.TheVariants.{Call, Send, Recv}
 use Rattle.tn_picture.specs.declared.request.PictureFormat.{PictureFormat}
-use Rattle.tn_picture.specs.declared.request.PictureFormat.TheVariants.{Svg, Plain}
+use Rattle.tn_picture.specs.declared.request.PictureFormat.TheVariants.{Svg, Plain, Json}
 use Rattle.tn_request.specs.declared.request.PicksSource.{PicksSource}
 use Rattle.tn_request.specs.declared.request.PicksSource.TheVariants.{Text, In, Moves, MovesIn}
 use Rattle.tn_request.specs.declared.request.RunSource.{RunSource}
@@ -144,33 +147,94 @@ IsRunOf m (ByPicks picks) = (is_given m (codes "round") ≡ false) × ArePicksOf
 IsRunOf m (ByRound limit control_first) =
     (is_given m (codes "round") ≡ true) × IsGiven 1 65536 (argument m (codes "limit")) limit × (control_first ≡ takes_control_first m)
 
--- a picture is lines for a terminal where `--text` is given, else a graphic
-abbrev pub picture_format_named : Bool → PictureFormat
-picture_format_named is_text = if is_text then Plain else Svg
+-- a picture is lines for a terminal where `--text` is given, JSON where `--json` is, else a graphic
+abbrev pub picture_format_named : (is_text is_json : Bool) → PictureFormat
+picture_format_named is_text is_json = if is_text then Plain else (if is_json then Json else Svg)
 
 -- ---- commands
 
--- the session that `--session` names, the move that `--move` gives, and whether `--node` is given
+-- the text is decimal digits, one at least
+abbrev pub has_only_digits : List ℕ → Bool
+has_only_digits [] = false
+has_only_digits (b ∷ bs) = list_all is_digit (b ∷ bs)
+
+-- the first of the words of `explain` without a name is the number of a move
+abbrev pub begins_with_number : ArgMatches → Bool
+begins_with_number m = option_map_or has_only_digits (argument m (codes "script")) false
+
+-- the word that gives the number of a move, and the one that names the script: the number comes after the script or before it
+abbrev pub move_word : ArgMatches → Option (List ℕ)
+move_word m = if begins_with_number m then argument m (codes "script") else argument m (codes "number")
+
+abbrev pub script_word : ArgMatches → Option (List ℕ)
+script_word m = if begins_with_number m then argument m (codes "number") else argument m (codes "script")
+
+-- the other word is a number too
+abbrev pub has_two_numbers : ArgMatches → Bool
+has_two_numbers m = option_map_or has_only_digits (script_word m) false
+
+-- another option says which moves are explained
+abbrev pub asks_otherwise : ArgMatches → Bool
+asks_otherwise m = is_some (argument m (codes "move")) || is_some (argument m (codes "message")) || is_some (argument m (codes "why-not"))
+
+-- the word gives this number, and no option says which moves are explained
+abbrev pub IsWordNumber : ArgMatches → List ℕ → Option ℕ → Type 0
+IsWordNumber m word n = (asks_otherwise m ≡ false) × IsNumberOrNone {E = Unit {0}} (Some word) (Ok n)
+
+-- the number of the move that is asked for: that of the word, where there is one, else that of `--move`
+abbrev pub IsMoveAsked : ArgMatches → Option (List ℕ) → Option ℕ → Type 0
+IsMoveAsked m (Some word) n = (has_two_numbers m ≡ false) × IsWordNumber m word n
+IsMoveAsked m None n = IsNumberOrNone {E = Unit {0}} (argument m (codes "move")) (Ok n)
+
+-- the session that `--session` names, the move that is asked for, and whether `--node` is given
 abbrev pub IsAskedOf : ArgMatches → Filter → Type 0
 IsAskedOf m a =
     IsTextOf (option_map session_named (argument m (codes "session"))) a.session
-    × IsNumberOrNone {E = Unit {0}} (argument m (codes "move")) (Ok a.move_number)
+    × IsMoveAsked m (move_word m) a.move_number
     × (a.node ≡ is_given m (codes "node"))
 
+-- the text of `--message` is the number of a message, where it is digits
+abbrev pub message_digits : Option (List ℕ) → Option (List ℕ)
+message_digits None = None
+message_digits (Some text) = if has_only_digits text then Some text else None
+
+-- the digits give no number, or no session is named
+abbrev pub NumberLacks : ArgMatches → List ℕ → Type 0
+NumberLacks m digits = (argument m (codes "session") ≡ None) ⊎ (¬ (IsPlainNumber digits))
+
+-- `--message` gives the number of a message of the session that `--session` names
+abbrev pub IsMessageNumber : ArgMatches → ℕ → Type 0
+IsMessageNumber m k =
+    IsSomeAnd (message_digits (argument m (codes "message"))) (λ digits. IsNumber digits k) × (is_some (argument m (codes "session")) ≡ true)
+
+-- it gives digits, and there is no such number or no session
+abbrev pub LacksMessageNumber : ArgMatches → Type 0
+LacksMessageNumber m = IsSomeAnd (message_digits (argument m (codes "message"))) (NumberLacks m)
+
 -- the pattern that `--message` gives, or else the one of `--why-not`, whose message isn't sent
-abbrev pub IsMessageGiven : ArgMatches → MessageArgs → Type 0
-IsMessageGiven m a =
+abbrev pub IsPatternGiven : ArgMatches → MessageArgs → Type 0
+IsPatternGiven m a =
     ((a.is_missing ≡ false) × (argument m (codes "message") ≡ Some a.pattern.now))
     ⊎ ((a.is_missing ≡ true) × (argument m (codes "message") ≡ None) × (argument m (codes "why-not") ≡ Some a.pattern.now))
+
+-- the same, where `--message` gives no digits
+abbrev pub IsMessageGiven : ArgMatches → MessageArgs → Type 0
+IsMessageGiven m a = IsPatternGiven m a × (message_digits (argument m (codes "message")) ≡ None)
 
 -- neither is given
 abbrev pub LacksMessage : ArgMatches → Type 0
 LacksMessage m = (argument m (codes "message") ≡ None) × (argument m (codes "why-not") ≡ None)
 
--- the message by which moves are chosen, where one is asked for
+-- the message by which moves are chosen, where one is asked for and `--message` isn't digits
 abbrev pub IsMessageAsked : ArgMatches → Option MessageArgs → Type 0
 IsMessageAsked m None = LacksMessage m
-IsMessageAsked m (Some a) = IsMessageGiven m a
+IsMessageAsked m (Some a) = IsPatternGiven m a
+
+-- the message of the number that `--message` gives, or none where there is no pattern either
+abbrev pub IsNumberAsked : ArgMatches → Option MessageFilter → Type 0
+IsNumberAsked m None = LacksMessage m
+IsNumberAsked m (Some (filters.Number k)) = IsMessageNumber m k
+IsNumberAsked m (Some (filters.Choice c)) = ⊥
 
 -- the state after so many moves, and the session that `--session` names
 abbrev pub IsStateOf : ArgMatches → StateQuestion → Type 0
@@ -303,14 +367,14 @@ AsksRun name m (Replay script picks quiet expectation) =
     (name ≡ codes "replay") × IsSourceNamed (argument m (codes "script")) script × ArePicksOf m picks
     × (quiet ≡ is_given m (codes "quiet")) × IsExpectationOf m expectation
 AsksRun name m (Explain script run filter message expectation) =
-    (name ≡ codes "explain") × IsSourceNamed (argument m (codes "script")) script × IsRunOf m run × IsAskedOf m filter
-    × (message ≡ None) × LacksMessage m × IsExpectationOf m expectation
+    (name ≡ codes "explain") × IsSourceNamed (script_word m) script × IsRunOf m run × IsAskedOf m filter
+    × IsNumberAsked m message × IsExpectationOf m expectation
 AsksRun name m (State script run question expectation) =
     (name ≡ codes "state") × IsSourceNamed (argument m (codes "script")) script × IsRunOf m run × IsStateOf m question
     × IsExpectationOf m expectation
 AsksRun name m (Draw script run format expectation) =
     (name ≡ codes "draw") × IsSourceNamed (argument m (codes "script")) script × IsRunOf m run
-    × (format ≡ picture_format_named (is_given m (codes "text"))) × IsExpectationOf m expectation
+    × (format ≡ picture_format_named (is_given m (codes "text")) (is_given m (codes "json"))) × IsExpectationOf m expectation
 AsksRun name m (Round script limit control_first quiet expectation) =
     IsRound name m control_first × IsSourceNamed (argument m (codes "script")) script × IsGiven 1 65536 (argument m (codes "limit")) limit
     × (quiet ≡ is_given m (codes "quiet")) × IsExpectationOf m expectation
@@ -319,7 +383,7 @@ AsksRun name m (Round script limit control_first quiet expectation) =
 abbrev pub Asks : List ℕ → ArgMatches → Request → Type 0
 Asks name m (Run run) = AsksRun name m run
 Asks name m (Message r) =
-    (name ≡ codes "explain") × IsSourceNamed (argument m (codes "script")) r.script × IsRunOf m r.run × IsAskedOf m r.filter
+    (name ≡ codes "explain") × IsSourceNamed (script_word m) r.script × IsRunOf m r.run × IsAskedOf m r.filter
     × IsMessageGiven m r.message × IsExpectationOf m r.expectation
 Asks name m (Workers w) =
     (name ≡ codes "workers") × IsSourceNamed (argument m (codes "script")) w.script
@@ -334,15 +398,19 @@ Asks name m (Explore exploration) = ((name ≡ codes "explore") × IsExploration
 abbrev pub LacksLimit : ArgMatches → Type 0
 LacksLimit m = (is_given m (codes "round") ≡ true) × (¬ (IsBetween 1 65536 (argument m (codes "limit"))))
 
--- the number of a move is none
+-- the number of a move is none, a word gives one beside another option, or two words do
 abbrev pub LacksMove : ArgMatches → Type 0
-LacksMove m = IsSomeAnd (argument m (codes "move")) (λ text. ¬ (IsPlainNumber text))
+LacksMove m =
+    IsSomeAnd (argument m (codes "move")) (λ text. ¬ (IsPlainNumber text))
+    ⊎ IsSomeAnd (move_word m) (λ text. (asks_otherwise m ≡ true) ⊎ (¬ (IsPlainNumber text)))
+    ⊎ (has_two_numbers m ≡ true)
 
 -- a number that the subcommand of this name was given isn't one, or is out of its bounds; for `spec` also no pid
 abbrev pub LacksNumber : List ℕ → ArgMatches → Type 0
 LacksNumber name m =
     ((name ≡ codes "explain") × LacksMove m)
     ⊎ ((name ≡ codes "explain") × LacksLimit m)
+    ⊎ ((name ≡ codes "explain") × LacksMessageNumber m)
     ⊎ ((name ≡ codes "state") × (¬ (IsBetween 0 4294967295 (argument m (codes "at")))))
     ⊎ ((name ≡ codes "state") × LacksLimit m)
     ⊎ ((name ≡ codes "draw") × LacksLimit m)

@@ -5,33 +5,40 @@
 //! an exploration that isn't complete.
 #![tactic(auto)]
 
-ghost use Rattle.std.specs.Prelude.{IfErr};
+ghost use Rattle.std.specs.Prelude.{IfErr, IfOk};
 ghost use Rattle.std.specs.Process.{exit_status};
 ghost use Rattle.tn_command.specs.Explorations.{IsExplorationStatus};
+ghost use Rattle.tn_cli.specs.Bounds.{IsBoundOf, IsMemoryOf};
+ghost use Rattle.tn_cli.specs.Formats.{IsFormatOf};
 
 mod format;
+mod memory_bound;
 mod output_bound;
 mod output_file;
 mod request;
 mod serve;
+mod terminal;
 mod usage_error;
 mod value;
 
 use clap::ArgMatches;
 use clap::error::ErrorKind;
 use format::format_of;
+use memory_bound::memory_of;
 use output_bound::most_of;
 use output_file::run_into_file;
 use request::request_of;
 use serve::serve;
 use std::alloc::{AllocError, Global};
-use std::io;
+use std::io::{self, IsTerminal};
 use std::process::ExitCode;
 use std::rt::{Env, Files};
 use std::sync::Wait;
 use std::thread::Threads;
+use terminal::shows_colours;
 use tn_command::{
-    FAULT, LastError, OutputForm, REFUSED, arguments, picks_of, refuse_value, report, run_fault,
+    BadValue, FAULT, LastError, OutputForm, REFUSED, arguments, picks_of, refuse_value, report,
+    run_fault,
 };
 use tn_line::command;
 use tn_notice::{CommandFault, Notice, escape_controls, print_fault, print_notice};
@@ -83,19 +90,30 @@ fn run_request<R: Input + Files + Print + Eprint + AllocGlobal, T: Threads + Wai
     answer_request(rt, threads, request, &text, form, &expectation)
 }
 
-/// Does what was read of the words.
+/// In which form the output is, and what its run may take, that the words ask for.
+fn form_of<'a>(shows_colours: bool, matches: &ArgMatches<'a>) -> Result<OutputForm, BadValue<'a>>
+    ensures format { IfOk result (λ form. IsFormatOf shows_colours matches.now form.format) }
+    ensures most { IfOk result (λ form. IsBoundOf matches.now form.most) }
+    ensures memory { IfOk result (λ form. IsMemoryOf matches.now form.memory) }
+{
+    Ok(OutputForm {
+        format: format_of(shows_colours, matches),
+        most: most_of(matches)?,
+        memory: memory_of(matches)?,
+    })
+}
+
+/// Does what was read of the words. Whether a terminal shows the output in colours, where the words don't say it.
 fn run_command<R: Input + Files + Print + Eprint + AllocGlobal, T: Threads + Wait + Sync>(
     rt: &R,
     threads: &T,
     matches: &ArgMatches<'_>,
+    shows_colours: bool,
 ) -> ExitCode
     ensures { IsExplorationStatus (exit_status result) }
 {
-    let form = match most_of(matches) {
-        Ok(most) => OutputForm {
-            format: format_of(matches),
-            most,
-        },
+    let form = match form_of(shows_colours, matches) {
+        Ok(form) => form,
         Err(bad) => return refuse_value(rt, bad),
     };
     match request_of(matches) {
@@ -241,17 +259,19 @@ fn output_path<'a>(matches: &ArgMatches<'a>) -> Option<&'a str> {
     given.get_str("output")
 }
 
-/// Does what was read of the words, whose output goes to standard output or to a file.
+/// Does what was read of the words, whose output goes to standard output, which may be a terminal that shows colours,
+/// or to a file.
 fn run_matches<R: Input + Files + Print + Eprint + AllocGlobal, T: Threads + Wait + Sync>(
     rt: &R,
     threads: &T,
     matches: &ArgMatches<'_>,
+    shows_colours: bool,
 ) -> ExitCode
     ensures { IsExplorationStatus (exit_status result) }
 {
     match output_path(matches) {
         Some(path) => run_into_file(rt, threads, matches, path),
-        None => run_command(rt, threads, matches),
+        None => run_command(rt, threads, matches, shows_colours),
     }
 }
 
@@ -264,38 +284,40 @@ fn do_words<R: Input + Files + Print + Eprint + AllocGlobal, T: Threads + Wait +
     ensures { IsExplorationStatus (exit_status result) }
 {
     match matches_of(rt, words) {
-        Ok(matches) => run_matches(rt, threads, &matches),
+        Ok(matches) => run_matches(rt, threads, &matches, false),
         Err(status) => status,
     }
 }
 
-/// Reads the command line, and does what it says.
-fn program<R: Input + Files + Print + Eprint + AllocGlobal + Threads + Wait + Sync>(
+/// Reads the command line, and does what it says. Whether standard output is a terminal.
+fn program<R: Env + Input + Files + Print + Eprint + AllocGlobal + Threads + Wait + Sync>(
     rt: &R,
     words: &[String],
+    is_terminal: bool,
 ) -> ExitCode
     ensures { IsExplorationStatus (exit_status result) }
 {
     match matches_of(rt, words) {
         Ok(matches) if matches!(matches.subcommand_name(), Some("serve")) => serve(rt),
-        Ok(matches) => run_matches(rt, rt, &matches),
+        Ok(matches) => run_matches(rt, rt, &matches, shows_colours(rt, is_terminal)),
         Err(status) => status,
     }
 }
 
-/// Runs the program, whose status it answers.
+/// Runs the program, whose status it answers. Whether standard output is a terminal.
 fn start<R: Env + Input + Files + Print + Eprint + AllocGlobal + Threads + Wait + Sync>(
     rt: &R,
+    is_terminal: bool,
 ) -> ExitCode
     ensures { IsExplorationStatus (exit_status result) }
 {
     match arguments(rt) {
-        Ok(words) => program(rt, &words),
+        Ok(words) => program(rt, &words, is_terminal),
         Err(status) => status,
     }
 }
 
 /// The program with the runtime of its process.
 fn main(rt: HostRuntime) -> ExitCode {
-    start(&rt)
+    start(&rt, rt.stdout().is_terminal())
 }

@@ -72,7 +72,7 @@ pub(crate) fn run_into_file<
     ensures { IsExplorationStatus (exit_status result) }
 {
     let runtime = OutputRuntime::of_host(rt);
-    let status = run_command(&runtime, threads, matches);
+    let status = run_command(&runtime, threads, matches, false);
     let Some(text) = runtime.into_output() else {
         return report(rt, CommandFault::Memory);
     };

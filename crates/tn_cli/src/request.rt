@@ -1,21 +1,27 @@
 // What the command line asks for: a command, made of what was read of its words.
-ghost use Rattle.std.specs.Prelude.{◌≡◌, [], OkIff, IfOk, IfErr, IfSome, IfNone, unwrap_or, codes};
+ghost use Rattle.std.specs.Prelude.{◌≡◌, [], OkIff, IfOk, IfErr, OnOk, IfSome, IfNone, ◌⊎◌, Some, true, false, codes};
+ghost use Rattle.std.specs.Prelude.{unwrap_or};
+ghost use Rattle.std.specs.Option.{is_some, option_map, option_map_or};
 ghost use Rattle.tn_cli.specs.Requests.{argument, is_given, picture_format_named, dialect_named, IsBetween};
 ghost use Rattle.tn_cli.specs.Requests.{number_given, IsNumberOrNone};
 ghost use Rattle.tn_cli.specs.Requests.{NamesProcess, NamesNoProcess, ArePicksOf, IsSourceNamed, Asks, IsAskedBy};
 ghost use Rattle.tn_cli.specs.Requests.{LacksLimit, LacksNumber, IsWithoutNumber, NamesNoCommand};
 ghost use Rattle.tn_cli.specs.Requests.{IsRunOf, takes_control_first, first_moves, form_given, order_named};
-ghost use Rattle.tn_cli.specs.Requests.{IsAskedOf, LacksMove, IsMessageAsked};
+ghost use Rattle.tn_cli.specs.Requests.{IsAskedOf, LacksMove, IsMessageAsked, IsNumber, message_digits, NumberLacks};
+ghost use Rattle.tn_cli.specs.Requests.{has_only_digits, script_word, move_word, asks_otherwise, IsMoveAsked};
+ghost use Rattle.tn_cli.specs.Requests.{IsWordNumber};
+ghost use Rattle.tn_command.specs.Numbers.{IsPlainNumber};
 ghost use Rattle.tn_cli.specs.Requests.{AreRandomRunsOf, LacksRandomNumber, listings_form_given, random_runs_given};
 ghost use Rattle.tn_expectation.specs.Expectations.{words_of};
 ghost use Rattle.tn_cli.specs.Requests.{IsExpectationOf, IsListingOf, IsSourceOrNone, texts_given};
 
-use crate::value::{process_number, session_name};
+use crate::value::{is_digits, process_number, session_name};
 use clap::ArgMatches;
 use tn_answers::AnswerForm;
 use tn_command::{BadValue, Source, plain_number, source_of};
 use tn_explain::Filter;
 use tn_exploration::RandomRuns;
+use tn_message_choice::MessageFilter;
 use tn_picture::PictureFormat;
 use tn_request::{
     ExpectationArgs, ExploreArgs, FunArgs, MessageArgs, MessageRequest, PicksSource, Request,
@@ -26,7 +32,7 @@ use tn_spec::Dialect;
 use tn_state::StateQuestion;
 
 /// A text that is no number for an option.
-fn not_number<'a>(option: &'static str, text: &'a str) -> BadValue<'a>
+pub(crate) fn not_number<'a>(option: &'static str, text: &'a str) -> BadValue<'a>
     ensures { (result.option ≡ option.entry) × (result.text ≡ text.entry) }
 {
     BadValue {
@@ -207,17 +213,133 @@ fn replay<'s, 'a: 's>(matches: &'s ArgMatches<'a>) -> Request<'s>
     })
 }
 
+/// Whether a word is there and is the number of a move.
+fn is_number_word(word: Option<&str>) -> bool
+    ensures { result ≡ option_map_or has_only_digits (option_map (λ w. w.now) word.entry) false }
+{
+    match word {
+        Some(word) => is_digits(word),
+        None => false,
+    }
+}
+
+/// The words of `explain` without a name: the one that names the script, and the one that gives the number of a move,
+/// which may stand before the other.
+fn plain_words<'a>(matches: &ArgMatches<'a>) -> (Option<&'a str>, Option<&'a str>)
+    ensures script { option_map (λ w. w.now) result.0 ≡ script_word matches.now }
+    ensures number { option_map (λ w. w.now) result.1 ≡ move_word matches.now }
+{
+    let first = matches.get_str("script");
+    let second = matches.get_str("number");
+    if is_number_word(first) {
+        (second, first)
+    } else {
+        (first, second)
+    }
+}
+
+/// Where the script of `explain` is read from.
+fn explained_script<'a>(matches: &ArgMatches<'a>) -> Source<'a>
+    ensures { IsSourceNamed (script_word matches.now) result }
+{
+    let (script, _) = plain_words(matches);
+    source_of(script)
+}
+
+/// Whether an option says which moves are explained.
+fn asks_otherwise(matches: &ArgMatches<'_>) -> bool
+    ensures { result ≡ asks_otherwise matches.now }
+{
+    matches.get_str("move").is_some()
+        || matches.get_str("message").is_some()
+        || matches.get_str("why-not").is_some()
+}
+
+/// The number of the move that a word gives, which no option does beside it.
+fn number_of_word<'a>(matches: &ArgMatches<'a>, word: &'a str) -> Result<Option<u64>, BadValue<'a>>
+    ensures asks { IfOk result (IsWordNumber matches.now word.now) }
+    ensures refused { IfErr result (λ e. (asks_otherwise matches.now ≡ true) ⊎ (¬ (IsPlainNumber word.now))) }
+{
+    let option = "[N]";
+    if asks_otherwise(matches) {
+        return Err(BadValue {
+            option,
+            text: word,
+            reason: "N isn't given beside --move, --message or --why-not",
+        });
+    }
+    match plain_number(word) {
+        Some(number) => Ok(Some(number as u64)),
+        None => Err(BadValue {
+            option,
+            text: word,
+            reason: "a number below 4294967296 is expected",
+        }),
+    }
+}
+
+/// The number of the move that is asked for, by a word or by `--move`.
+fn move_number<'a>(matches: &ArgMatches<'a>) -> Result<Option<u64>, BadValue<'a>>
+    ensures asks { IfOk result (IsMoveAsked matches.now (move_word matches.now)) }
+    ensures refused { IfErr result (λ e. LacksMove matches.now) }
+{
+    let (script, number) = plain_words(matches);
+    if let Some(word) = number {
+        if is_number_word(script) {
+            return Err(BadValue {
+                option: "[SCRIPT]",
+                text: script.unwrap_or(""),
+                reason: "N is given already; a file of this name is given with ./ before it, and picks are one word",
+            });
+        }
+        return number_of_word(matches, word);
+    }
+    number_or_none(matches, "move", "--move <N>")
+}
+
 /// The session and the move that are asked for, and whether only the moves are that a node does otherwise.
 fn filter<'a>(matches: &ArgMatches<'a>) -> Result<Filter<'a>, BadValue<'a>>
     ensures asks { IfOk result (IsAskedOf matches.now) }
     ensures refused { IfErr result (λ e. LacksMove matches.now) }
 {
-    let move_number = number_or_none(matches, "move", "--move <N>")?;
+    let move_number = move_number(matches)?;
     Ok(Filter {
         session: matches.get_str("session").map(session_name),
         move_number,
         node: flag(matches, "node"),
     })
+}
+
+/// The digits of the number of the message that is asked for, where the text of `--message` is digits.
+fn message_digits<'a>(matches: &ArgMatches<'a>) -> Option<&'a str>
+    ensures { option_map (λ w. w.now) result ≡ message_digits (argument matches.now (codes "message")) }
+{
+    let text = matches.get_str("message")?;
+    if is_digits(text) { Some(text) } else { None }
+}
+
+/// The number of the message that these digits ask for, of the session that is named.
+fn message_number<'a>(matches: &ArgMatches<'a>, digits: &'a str) -> Result<u64, BadValue<'a>>
+    ensures given { IfOk result (IsNumber digits.now) }
+    ensures session { OnOk result (is_some (argument matches.now (codes "session")) ≡ true) }
+    ensures refused { IfErr result (λ e. NumberLacks matches.now digits.now) }
+{
+    let option = "--message <PATTERN>";
+    if matches.get_str("session").is_none() {
+        return Err(BadValue {
+            option,
+            text: digits,
+            reason: "a number is that of a message of a session, and --session <NAME> isn't given",
+        });
+    }
+    match plain_number(digits) {
+        Some(number) => Ok(number as u64),
+        None => Err(BadValue {
+            option,
+            text: digits,
+            reason: "a number below 4294967296 is expected",
+        }),
+    }
 }
 
 /// The message by which moves are chosen, where one is asked for.
@@ -244,9 +366,19 @@ fn explain<'s, 'a: 's>(matches: &'s ArgMatches<'a>) -> Result<Request<'s>, BadVa
 {
     let filter = filter(matches)?;
     let run = run_source(matches)?;
+    if let Some(digits) = message_digits(matches) {
+        let number = message_number(matches, digits)?;
+        return Ok(Request::Run(RunRequest::Explain {
+            script: explained_script(matches),
+            run,
+            filter,
+            message: Some(MessageFilter::Number(number)),
+            expectation: expectation(matches),
+        }));
+    }
     let Some(message) = message(matches) else {
         return Ok(Request::Run(RunRequest::Explain {
-            script: script(matches),
+            script: explained_script(matches),
             run,
             filter,
             message: None,
@@ -254,7 +386,7 @@ fn explain<'s, 'a: 's>(matches: &'s ArgMatches<'a>) -> Result<Request<'s>, BadVa
         }));
     };
     Ok(Request::Message(MessageRequest {
-        script: script(matches),
+        script: explained_script(matches),
         run,
         filter,
         message,
@@ -282,10 +414,12 @@ fn state<'s, 'a: 's>(matches: &'s ArgMatches<'a>) -> Result<Request<'s>, BadValu
 
 /// What a picture is written as.
 fn format<'a>(matches: &ArgMatches<'a>) -> PictureFormat
-    ensures { result ≡ picture_format_named (is_given matches.now (codes "text")) }
+    ensures { result ≡ picture_format_named (is_given matches.now (codes "text")) (is_given matches.now (codes "json")) }
 {
     if flag(matches, "text") {
         PictureFormat::Plain
+    } else if flag(matches, "json") {
+        PictureFormat::Json
     } else {
         PictureFormat::Svg
     }

@@ -1,7 +1,10 @@
-// Values that may be written in two ways: a process by its number or its pid, a session by its name bare or in quotes.
+// Values that may be written in two ways: a process by its number or its pid, a session by its name bare or in quotes;
+// and which texts are numbers.
 ghost use Rattle.std.specs.Prelude.{◌≡◌, ◌≢◌, ◌++◌, ℕ, List, IfNone, IfSome};
 ghost use Rattle.std.specs.List.{list_all};
 ghost use Rattle.tn_cli.specs.Requests.{NamesProcess, NamesNoProcess, is_inner, session_named};
+ghost use Rattle.tn_cli.specs.Requests.{has_only_digits};
+ghost use Rattle.def_term.specs.Text.{is_digit};
 
 use tn_command::plain_number;
 
@@ -40,4 +43,18 @@ pub fn session_name(text: &str) -> &str
         Some(name) if is_inner_text(name) => name,
         _ => text,
     }
+}
+
+/// Whether each byte of a text is a decimal digit.
+fn are_digits(text: &str) -> bool
+    ensures { result ≡ list_all is_digit text.now }
+{
+    text.bytes().all(|byte| byte >= b'0' && byte <= b'9')
+}
+
+/// Whether a text is decimal digits, one at least.
+pub fn is_digits(text: &str) -> bool
+    ensures { result ≡ has_only_digits text.now }
+{
+    !text.is_empty() && are_digits(text)
 }

@@ -4,7 +4,9 @@ use Rattle.std.specs.Prelude.{◌≡◌, ◌≤◌, ◌<◌, ◌⊎◌, ℕ, Lis
 use Rattle.def_script.specs.Program.{Program}
 use Rattle.def_formats.specs.Formats.{in_format}
 use Rattle.tn_formats.specs.Values.{format_seen}
+use Rattle.def_formats.specs.MovedRows.{IsMovedJson}
 use Rattle.tn_formats.specs.declared.format.Format.{Format}
+use Rattle.tn_formats.specs.declared.format.Format.TheVariants.{Summary, OutputJson, SummaryJson, AccountJson, TextJson, Coloured}
 use Rattle.tn_run.specs.Jobs.{FailedEnd, GivesMore, IsOfNoEnd, JobView, no_end_failed}
 use Rattle.tn_run.specs.declared.fault.RunFault.TheVariants.{OutOfMemory}
 use Rattle.tn_run.specs.declared.fault.LiveFault.{LiveFault}
@@ -29,9 +31,36 @@ pub record IsTextIn (format : Option Format) (IsPlain : List ℕ → Type 0) (te
   pub text_is : text ≡ text_in_format format plain
 
 -- the job that gives what another one gives, with its output in a format
+abbrev pub job_in_text : {O F : Type 0} → Option Format → JobView O F → JobView O F
+job_in_text format job = record {
+  of_program = λ p outcome output. IsTextIn format (job.of_program p outcome) output;
+  refusal_in = job.refusal_in;
+  succeeds = job.succeeds;
+  has = job.has;
+  reads = job.reads;
+  end_of = job.end_of;
+}
+
+-- what is written of a program in a format: of an output as JSON with the moves of its messages
+abbrev pub IsTextInFormat : Option Format → Program → (plain text : List ℕ) → Type 0
+IsTextInFormat None p plain text = text ≡ plain
+IsTextInFormat (Some Summary) p plain text = text ≡ text_in_format (Some Summary) plain
+IsTextInFormat (Some SummaryJson) p plain text = text ≡ text_in_format (Some SummaryJson) plain
+IsTextInFormat (Some OutputJson) p plain text = IsMovedJson p plain text
+IsTextInFormat (Some AccountJson) p plain text = text ≡ text_in_format (Some AccountJson) plain
+IsTextInFormat (Some TextJson) p plain text = text ≡ text_in_format (Some TextJson) plain
+IsTextInFormat (Some Coloured) p plain text = text ≡ text_in_format (Some Coloured) plain
+
+-- that of a plain text of which this holds
+pub record IsOutputIn (format : Option Format) (p : Program) (IsPlain : List ℕ → Type 0) (text : List ℕ) : Type 0 where
+  pub plain : List ℕ
+  pub is_plain : IsPlain plain
+  pub text_is : IsTextInFormat format p plain text
+
+-- the same, with the moves of the messages of an output as JSON
 abbrev pub job_in : {O F : Type 0} → Option Format → JobView O F → JobView O F
 job_in format job = record {
-  of_program = λ p outcome output. IsTextIn format (job.of_program p outcome) output;
+  of_program = λ p outcome output. IsOutputIn format p (job.of_program p outcome) output;
   refusal_in = job.refusal_in;
   succeeds = job.succeeds;
   has = job.has;
@@ -78,7 +107,7 @@ IsFaultWithin most job p (ListingsTooLong bound) = GivesMore most job p × (boun
 
 -- the job that gives what another one gives, in this form
 abbrev pub job_in_form : {O F : Type 0} → OutputForm → JobView O F → JobView O (OutputFault F)
-job_in_form form job = job_within form.most (job_in form.format job)
+job_in_form form job = job_within form.most (job_in_text form.format job)
 
 -- the output in a form of a run: a listing in the format, within the bound, and a refusal's line as it is
 abbrev pub IsInForm : OutputForm → Outcome → (plain output : List ℕ) → Type 0

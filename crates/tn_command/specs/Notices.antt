@@ -8,11 +8,12 @@ use Rattle.def_text.specs.Places.{LineColumn, place_at}
 use Rattle.def_script.specs.Program.{Program}
 use Rattle.def_script.specs.Script.{IsScript, creations}
 use Rattle.def_run.specs.Run.{moves}
+use Rattle.def_run.specs.Listing.{messages}
 use Rattle.def_moves.specs.Texts.{MovesPiece, first_piece, pids_named}
 use Rattle.def_explain.specs.EmptyScripts.{is_gap}
 use Rattle.def_notice.specs.FaultTexts.{FaultSaid, of_reading, of_writing, of_memory, of_workers, of_bytes, of_listings}
 use Rattle.def_notice.specs.MovesTexts.{MovesReason, no_mover, no_number, no_count, no_start, many_starts, no_program, too_many_bytes, no_directive_at, bad_moves_text}
-use Rattle.def_notice.specs.NoticeTexts.{NodeCommand, by_same_picks, by_journal, the_list, the_caller, is_no_list, is_no_function, Notice, of_fault, of_test_text, no_session, no_move, no_node_move, no_chosen_move, no_forms}
+use Rattle.def_notice.specs.NoticeTexts.{NodeCommand, by_same_picks, by_journal, the_list, the_caller, is_no_list, is_no_function, Notice, of_fault, of_test_text, no_session, no_move, no_message, no_node_move, no_chosen_move, no_forms}
 use Rattle.tn_moves.specs.Schedules.{OfPicks, schedule_seen}
 use Rattle.tn_moves.specs.declared.schedule.Schedule.{Schedule}
 use Rattle.tn_moves.specs.declared.schedule.Schedule.TheVariants.{Picks, Moves, Round, ControlFirst}
@@ -22,6 +23,8 @@ use Rattle.tn_run.specs.declared.fault.RunFault.{RunFault}
 use Rattle.tn_run.specs.declared.fault.RunFault.TheVariants as runs
 use Rattle.tn_run.specs.declared.fault.LiveFault.{LiveFault}
 use Rattle.tn_run.specs.declared.fault.LiveFault.TheVariants as lives
+use Rattle.tn_message_choice.specs.declared.choice.MessageFilter.{MessageFilter}
+use Rattle.tn_message_choice.specs.declared.choice.MessageFilter.TheVariants.{Choice, Number}
 use Rattle.tn_explain.specs.declared.request.ExplainOutcome.{ExplainOutcome}
 use Rattle.tn_explain.specs.declared.request.ExplainOutcome.TheVariants as explained
 use Rattle.tn_state.specs.declared.request.StateOutcome.{StateOutcome}
@@ -54,14 +57,20 @@ output_fault_said said (outputs.ListingsTooLong most) = of_listings most
 
 -- ---- outcomes
 
--- of an account that is asked for of the session of a name, or of the move of a number; a refusal has a line of its own
-abbrev pub notice_of_account : ExplainOutcome → (name : List ℕ) → (number : ℕ) → RunOutline → Option Notice
-notice_of_account explained.Account name n known = None
-notice_of_account (explained.Refused r) name n known = None
-notice_of_account explained.NoSession name n known = Some (no_session name (option_map (λ s. s.now) known.sessions))
-notice_of_account explained.NoMove name n known = Some (no_move n known.moves)
-notice_of_account explained.NoDifference name n known = Some no_node_move
-notice_of_account explained.NoMessage name n known = Some no_chosen_move
+-- where no move is asked for by a message: the session of this name sends none of its number, or no message chooses one
+abbrev pub notice_of_message : Option MessageFilter → (session : List ℕ) → (messages : Option ℕ) → Notice
+notice_of_message None session messages = no_chosen_move
+notice_of_message (Some (Choice c)) session messages = no_chosen_move
+notice_of_message (Some (Number k)) session messages = no_message session k messages
+
+-- of an account that is asked for of the session of a name, of the move of a number, or by a message; a refusal has a line of its own
+abbrev pub notice_of_account : ExplainOutcome → Option MessageFilter → (name : List ℕ) → (number : ℕ) → RunOutline → Option Notice
+notice_of_account explained.Account m name n known = None
+notice_of_account (explained.Refused r) m name n known = None
+notice_of_account explained.NoSession m name n known = Some (no_session name (option_map (λ s. s.now) known.sessions))
+notice_of_account explained.NoMove m name n known = Some (no_move n known.moves)
+notice_of_account explained.NoDifference m name n known = Some no_node_move
+notice_of_account explained.NoMessage m name n known = Some (notice_of_message m name known.messages)
 
 -- the names of sessions, with commas between them
 abbrev pub names_after : List ℕ → List (Name × Name) → List ℕ
@@ -81,6 +90,11 @@ AreSessionsOf script (Some names) = (p : Program) × IsScript script p × (names
 abbrev pub AreMovesOfRun : (script : List ℕ) → Schedule → Option ℕ → Type 0
 AreMovesOfRun script schedule None = Unit {0}
 AreMovesOfRun script schedule (Some n) = (p : Program) × IsScript script p × OfPicks (schedule_seen schedule) p (λ picks. n ≡ length (moves p picks))
+
+-- the session of this name sends so many messages in a run of a script with these bytes by a schedule, where that is known
+abbrev pub AreMessagesOfRun : (script : List ℕ) → Schedule → (session : List ℕ) → Option ℕ → Type 0
+AreMessagesOfRun script schedule session None = Unit {0}
+AreMessagesOfRun script schedule session (Some n) = (p : Program) × IsScript script p × OfPicks (schedule_seen schedule) p (λ picks. n ≡ length (messages session p picks))
 
 -- of a state that is asked for of the session of a name, after the move of a number
 abbrev pub notice_of_state : StateOutcome → (name : List ℕ) → (number : ℕ) → RunOutline → Option Notice

@@ -1,22 +1,23 @@
 // The jobs of the commands, and what is said of their outcomes.
 ghost use Rattle.std.specs.Prelude.{◌≡◌, IfOk};
-ghost use Rattle.tn_notice.specs.NoticeViews.{command_seen_of, notices_seen};
+ghost use Rattle.tn_notice.specs.NoticeViews.{command_seen_of, notice_seen, notices_seen};
 ghost use Rattle.tn_command.specs.Flaws.{IsFlawBy, IsScheduleFlaw};
-ghost use Rattle.tn_command.specs.Notices.{node_command_of, notice_of_account};
+ghost use Rattle.tn_command.specs.Notices.{node_command_of, notice_of_account, notice_of_message};
 
 use crate::moves_line::tell_run_refusal;
 use crate::remarks::{forms_notice, print_notices, tell_schedule_picks, tell_schedule_remarks};
-use crate::run_outline::{RunOutline, move_count, names_text, sessions_of};
+use crate::run_outline::{RunOutline, move_count, names_text, sent_count, sessions_of};
 use crate::stderr::{NamedText, node_notice, run_fault};
-use std::alloc::Global;
+use std::alloc::Allocator;
 use tn_explain::{ExplainOutcome, ExplainRequest};
+use tn_message_choice::MessageFilter;
 use tn_moves::Schedule;
 use tn_notice::{CommandFault, NodeCommand, Notice, escape_controls, plain_name, print_notice};
 use tn_replay::{Replay, ReplayOutcome, has_no_forms, schedule_has_remarks, text_has_remarks};
 use tn_run::{Denial, Job, RunFault};
 
 /// A job that a command does.
-pub trait Command: Job<Global> {
+pub trait Command<A: Allocator + Copy>: Job<A> {
     ghost use Rattle.std.specs.Prelude.{◌≡◌, ℕ, Bool, List, IfOk};
     ghost use Rattle.def_notice.specs.FaultTexts.{FaultSaid};
     ghost use Rattle.tn_notice.specs.FaultViews.{command_fault_seen};
@@ -48,7 +49,7 @@ pub trait Command: Job<Global> {
     /// Refused memory; or the denial of the script, whose outcome this isn't then.
     fn is_flawed(
         &self,
-        alloc: Global,
+        alloc: A,
         outcome: &Self::Outcome,
         script: NamedText<'_>,
     ) -> Result<bool, Denial>
@@ -56,7 +57,11 @@ pub trait Command: Job<Global> {
 }
 
 /// Whether a script has no forms, or a command of its run by these picks is refused, matches no function or has a trap.
-pub(crate) fn has_flaw(alloc: Global, script: NamedText<'_>, picks: &[u32]) -> Result<bool, Denial>
+pub(crate) fn has_flaw<A: Allocator + Copy>(
+    alloc: A,
+    script: NamedText<'_>,
+    picks: &[u32],
+) -> Result<bool, Denial>
     ensures { IfOk result (IsFlawBy picks.now script.entry.bytes.now) }
 {
     let has_remarks = text_has_remarks(alloc, script.bytes, picks)?;
@@ -64,8 +69,8 @@ pub(crate) fn has_flaw(alloc: Global, script: NamedText<'_>, picks: &[u32]) -> R
 }
 
 /// The same of its run by a schedule.
-pub(crate) fn has_schedule_flaw(
-    alloc: Global,
+pub(crate) fn has_schedule_flaw<A: Allocator + Copy>(
+    alloc: A,
     script: NamedText<'_>,
     schedule: &Schedule<'_>,
 ) -> Result<bool, Denial>
@@ -95,23 +100,63 @@ fn node_command(schedule: &Schedule<'_>) -> NodeCommand
     }
 }
 
-/// What is said of the outcome of an account that is asked for of the session of a name, or of the move of a number.
+/// What is said where no move is asked for by a message, of the session of a name where its number is asked for.
+fn message_notice<'a>(
+    message: Option<MessageFilter<'_>>,
+    session: &'a str,
+    messages: Option<u64>,
+) -> Notice<'a>
+    ensures { notice_seen result ≡ notice_of_message message.entry session.now messages }
+{
+    match message {
+        Some(MessageFilter::Number(number)) => Notice::NoMessage {
+            session,
+            number,
+            messages,
+        },
+        _ => Notice::NoChosenMove,
+    }
+}
+
+/// What is said of the outcome of an account that is asked for of the session of a name, of the move of a number, or by
+/// a message.
 fn account_notice<'a>(
     outcome: ExplainOutcome,
+    message: Option<MessageFilter<'_>>,
     name: &'a str,
     number: u64,
     known: RunOutline<'a>,
 ) -> Option<Notice<'a>>
-    ensures { notices_seen result ≡ notice_of_account outcome name.now number known.entry }
+    ensures { notices_seen result ≡ notice_of_account outcome message.entry name.now number known.entry }
 {
-    let RunOutline { sessions, moves } = known;
+    let RunOutline {
+        sessions,
+        moves,
+        messages,
+    } = known;
     match outcome {
         ExplainOutcome::Account => None,
         ExplainOutcome::Refused(_) => None,
         ExplainOutcome::NoSession => Some(Notice::NoSession { name, sessions }),
         ExplainOutcome::NoMove => Some(Notice::NoMove { number, moves }),
         ExplainOutcome::NoDifference => Some(Notice::NoNodeMove),
-        ExplainOutcome::NoMessage => Some(Notice::NoChosenMove),
+        ExplainOutcome::NoMessage => Some(message_notice(message, name, messages)),
+    }
+}
+
+/// How many messages the session sends that is asked about, where it sends none of the number that is asked for.
+fn missing_messages<R: AllocGlobal>(
+    rt: &R,
+    request: &ExplainRequest<'_>,
+    outcome: ExplainOutcome,
+    script: NamedText<'_>,
+) -> Option<u64> {
+    match (outcome, request.message) {
+        (ExplainOutcome::NoMessage, Some(MessageFilter::Number(_))) => {
+            let session = request.filter.session.unwrap_or("");
+            sent_count(rt.alloc(), script.bytes, &request.schedule, session)
+        }
+        _ => None,
     }
 }
 
@@ -136,11 +181,13 @@ fn tell_no_account<R: Eprint + AllocGlobal>(
     let known = RunOutline {
         sessions: names_text(&sessions),
         moves,
+        messages: missing_messages(rt, request, outcome, script),
     };
-    print_notices(rt, account_notice(outcome, name, number, known));
+    let notice = account_notice(outcome, request.message, name, number, known);
+    print_notices(rt, notice);
 }
 
-impl Command for Replay<'_> {
+impl<A: Allocator + Copy> Command<A> for Replay<'_> {
     ghost use Rattle.tn_command.specs.Flaws.{IsReplayFlaw};
     ghost use Rattle.tn_command.specs.Notices.{run_fault_said};
 
@@ -179,7 +226,7 @@ impl Command for Replay<'_> {
 
     fn is_flawed(
         &self,
-        alloc: Global,
+        alloc: A,
         outcome: &ReplayOutcome,
         script: NamedText<'_>,
     ) -> Result<bool, Denial> {
@@ -193,7 +240,7 @@ impl Command for Replay<'_> {
     }
 }
 
-impl Command for ExplainRequest<'_> {
+impl<A: Allocator + Copy> Command<A> for ExplainRequest<'_> {
     ghost use Rattle.tn_command.specs.Flaws.{IsExplainedFlaw};
     ghost use Rattle.tn_command.specs.Notices.{run_fault_said};
 
@@ -222,7 +269,7 @@ impl Command for ExplainRequest<'_> {
 
     fn is_flawed(
         &self,
-        alloc: Global,
+        alloc: A,
         outcome: &ExplainOutcome,
         script: NamedText<'_>,
     ) -> Result<bool, Denial> {

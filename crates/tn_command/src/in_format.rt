@@ -1,12 +1,15 @@
 // A job whose output is written in a format.
-ghost use Rattle.std.specs.Prelude.{◌≡◌, IfOk};
-ghost use Rattle.tn_command.specs.JobForms.{text_in_format};
+ghost use Rattle.std.specs.Prelude.{◌≡◌, IfOk, Some};
+ghost use Rattle.def_formats.specs.MovedRows.{IsMovedJson, IsSpelledOrNone};
+ghost use Rattle.tn_program.specs.Views.{program_of};
+ghost use Rattle.tn_command.specs.JobForms.{IsTextInFormat, text_in_format};
 
 use crate::command::Command;
 use crate::stderr::NamedText;
 use std::alloc::{AllocError, Allocator, Global};
-use tn_formats::{Format, in_format};
-use tn_listing::PicksFault;
+use tn_formats::{Format, in_format, journal_text, moved_json};
+use tn_listing::{PicksFault, read_picks};
+use tn_message_moves::message_moves;
 use tn_notice::CommandFault;
 use tn_program::Program;
 use tn_run::{Denial, DirectJob, Job, Refusal, RunFault};
@@ -28,6 +31,65 @@ pub(crate) fn text_in_format<A: Allocator + Copy>(
 {
     match format {
         Some(format) => in_format(alloc, format, &text),
+        None => Ok(text),
+    }
+}
+
+/// The picks that a text spells; none where it spells none.
+fn spelled_picks<A: Allocator + Copy>(alloc: A, text: &[u8]) -> Result<Vec<u32, A>, AllocError>
+    ensures { IfOk result (λ v. IsSpelledOrNone text.now v.items) }
+{
+    match read_picks(alloc, text) {
+        Ok(picks) => Ok(picks),
+        Err(PicksFault::BadPicks) => Ok(Vec::new(alloc)),
+        Err(PicksFault::OutOfMemory) => Err(AllocError),
+    }
+}
+
+/// The JSON of an output of a program, with the moves of its messages.
+fn moved_text<A: Allocator + Copy>(
+    alloc: A,
+    program: &Program<A>,
+    output: &[u8],
+) -> Result<Vec<u8, A>, AllocError>
+    ensures { IfOk result (λ v. IsMovedJson (program_of program.now) output.now v.items) }
+{
+    let journal = journal_text(alloc, output)?;
+    let picks = spelled_picks(alloc, &journal)?;
+    let moves = message_moves(alloc, program, &picks)?;
+    moved_json(alloc, &moves, output)
+}
+
+/// What is written of a program in a format: the JSON of an output has the moves of its messages.
+fn formatted_text<A: Allocator + Copy>(
+    alloc: A,
+    format: Format,
+    program: &Program<A>,
+    text: &[u8],
+) -> Result<Vec<u8, A>, AllocError>
+    ensures { IfOk result (λ v. IsTextInFormat (Some format) (program_of program.now) text.now v.items) }
+{
+    match format {
+        Format::OutputJson => moved_text(alloc, program, text),
+        Format::Summary => in_format(alloc, Format::Summary, text),
+        Format::SummaryJson => in_format(alloc, Format::SummaryJson, text),
+        Format::AccountJson => in_format(alloc, Format::AccountJson, text),
+        Format::TextJson => in_format(alloc, Format::TextJson, text),
+        Format::Coloured => in_format(alloc, Format::Coloured, text),
+    }
+}
+
+/// The same, or the text as it is where no format is given.
+fn program_text<A: Allocator + Copy>(
+    alloc: A,
+    format: Option<Format>,
+    program: &Program<A>,
+    text: Vec<u8, A>,
+) -> Result<Vec<u8, A>, AllocError>
+    ensures { IfOk result (λ v. IsTextInFormat format (program_of program.now) text.items v.items) }
+{
+    match format {
+        Some(format) => formatted_text(alloc, format, program, &text),
         None => Ok(text),
     }
 }
@@ -68,7 +130,7 @@ impl<A: Allocator + Copy, J: DirectJob<A>> DirectJob<A> for InFormat<'_, J> {
         program: &Program<A>,
     ) -> Result<(J::Outcome, Vec<u8, A>), J::Fault> {
         let (outcome, plain) = self.job.answer(alloc, picks, program)?;
-        match text_in_format(alloc, self.format, plain) {
+        match program_text(alloc, self.format, program, plain) {
             Ok(output) => Ok((outcome, output)),
             Err(_) => Err(self.job.fault_of(RunFault::OutOfMemory)),
         }
@@ -88,7 +150,7 @@ impl<A: Allocator + Copy, J: DirectJob<A>> DirectJob<A> for InFormat<'_, J> {
     }
 }
 
-impl<J: Command> Command for InFormat<'_, J> {
+impl<A: Allocator + Copy, J: Command<A>> Command<A> for InFormat<'_, J> {
     ghost flaw = { λ f outcome bytes flawed. J.flaw f.job.now outcome bytes flawed };
 
     ghost said = { J.said };
@@ -108,7 +170,7 @@ impl<J: Command> Command for InFormat<'_, J> {
 
     fn is_flawed(
         &self,
-        alloc: Global,
+        alloc: A,
         outcome: &J::Outcome,
         script: NamedText<'_>,
     ) -> Result<bool, Denial> {

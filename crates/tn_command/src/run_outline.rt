@@ -1,11 +1,12 @@
-// What is known of a run beside an outcome that has no answer: which sessions its script creates, and how many moves it
-// has.
+// What is known of a run beside an outcome that has no answer: which sessions its script creates, how many moves it
+// has, and how many messages a session sends.
 ghost use Rattle.std.specs.Prelude.{◌≡◌, IfOk};
 ghost use Rattle.std.specs.Option.{option_map};
 ghost use Rattle.tn_program.specs.Views.{program_of};
-ghost use Rattle.tn_command.specs.Notices.{AreMovesOfRun, AreSessionsOf, session_names};
+ghost use Rattle.tn_command.specs.Notices.{AreMessagesOfRun, AreMovesOfRun, AreSessionsOf, session_names};
 
 use std::alloc::{AllocError, Global};
+use tn_message_choice::message_count;
 use tn_moves::{Schedule, moves_of_plan};
 use tn_program::Program;
 use tn_run::accept;
@@ -18,6 +19,8 @@ pub(crate) struct RunOutline<'a> {
     pub sessions: Option<&'a str>,
     /// How many moves it has.
     pub moves: Option<u64>,
+    /// How many messages the session sends that is asked about.
+    pub messages: Option<u64>,
 }
 
 /// The names of the sessions that a program creates, with commas between them.
@@ -72,4 +75,29 @@ pub(crate) fn move_count(alloc: Global, script: &[u8], schedule: &Schedule<'_>) 
         return None;
     };
     Some(moves.len() as u64)
+}
+
+/// How many messages the session of a name sends in the run of a script by a schedule; None where one of both is
+/// refused, or memory was.
+pub(crate) fn sent_count(
+    alloc: Global,
+    script: &[u8],
+    schedule: &Schedule<'_>,
+    session: &str,
+) -> Option<u64>
+    ensures { AreMessagesOfRun script.now schedule.now session.now result }
+{
+    let Ok(program) = accept(alloc, script) else {
+        return None;
+    };
+    let Ok(picks) = schedule.picks_of_text(alloc) else {
+        return None;
+    };
+    let Ok(plan) = schedule.plan(alloc, &program, &picks) else {
+        return None;
+    };
+    let Ok(count) = message_count(alloc, &program, &plan, session) else {
+        return None;
+    };
+    count
 }

@@ -13,5 +13,6 @@ pub mod BeforePicks
 pub mod DifferenceLines
 pub mod NodeMoveTexts
 pub mod ChosenMoveTexts
+pub mod NumberTexts
 mod CommandDifferences
 mod Explanations

@@ -6,14 +6,15 @@ use Rattle.def_explain.specs.Runs.{AccountEntry, shows, shows_nothing}
 use Rattle.def_explain.specs.RunTexts as definition
 use Rattle.def_explain.specs.RunTexts.{is_session, is_move, entry_text, filter_entries, account_text}
 use Rattle.def_running_node.specs.NodeNotes.{Question, question_text, node_account_text}
-use Rattle.def_message_choice.specs.ChosenAccounts.{chosen_account_text, AccountQuestion, account_question_text}
+use Rattle.def_message_choice.specs.ChosenAccounts.{chosen_account_text, number_account_text, AccountQuestion, account_question_text}
 use Rattle.tn_flags.specs.Views.{event_of, command_of}
 use Rattle.tn_flags.specs.declared.event.Event.{Event}
 use Rattle.tn_flags.specs.declared.command.Command.{Command}
 use Rattle.tn_program.specs.Views.{program_of}
 use Rattle.tn_program.specs.declared.parts.Program.{Program}
-use Rattle.tn_message_choice.specs.Choices.{choice_seen}
+use Rattle.tn_message_choice.specs.Choices.{choice_seen, filter_seen}
 use Rattle.tn_message_choice.specs.declared.choice.MessageChoice.{MessageChoice}
+use Rattle.tn_message_choice.specs.declared.choice.MessageFilter.{MessageFilter}
 use Rattle.tn_explain.specs.declared.filter.Filter.{Filter}
 use Rattle.tn_explain.specs.declared.selection.Selection.{Selection}
 use Rattle.tn_explain.specs.declared.step.Step.{Step}
@@ -25,8 +26,8 @@ abbrev pub question_seen : Filter → Question
 question_seen a = record { filter = record { session = option_map (λ s. s.now) a.session; move = a.move_number }; node = a.node }
 
 -- with the message that is asked for, where one is
-abbrev pub account_question_seen : Filter → Option MessageChoice → AccountQuestion
-account_question_seen a m = record { question = question_seen a; message = option_map choice_seen m }
+abbrev pub account_question_seen : Filter → Option MessageFilter → AccountQuestion
+account_question_seen a m = record { question = question_seen a; message = option_map filter_seen m }
 
 -- the text of those of the entries that are selected, after the move of this number
 abbrev pub filtered_text : definition.Filter → ℕ → List AccountEntry → List ℕ
@@ -68,6 +69,10 @@ account_of filter program picks = question_text (question_seen filter) (program_
 abbrev pub chosen_moves_of : {A : Type 0} → MessageChoice → Selection → Program A → List ℕ → List ℕ
 chosen_moves_of c a program picks = chosen_account_text (choice_seen c) (selection_seen a) (program_of program) picks
 
--- the account, or where a message is asked for that of the moves that are chosen by it
-abbrev pub asked_of : {A : Type 0} → Filter → Option MessageChoice → Program A → List ℕ → List ℕ
+-- and of the move of the message of a number
+abbrev pub number_move_of : {A : Type 0} → ℕ → Selection → Program A → List ℕ → List ℕ
+number_move_of k a program picks = number_account_text k (selection_seen a) (program_of program) picks
+
+-- the account, or where a message is asked for that of the moves that are asked for by it
+abbrev pub asked_of : {A : Type 0} → Filter → Option MessageFilter → Program A → List ℕ → List ℕ
 asked_of filter m program picks = account_question_text (account_question_seen filter m) (program_of program) picks

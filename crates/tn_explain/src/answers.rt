@@ -10,7 +10,7 @@ use crate::creations::has_session;
 use crate::filter::Filter;
 use crate::request::ExplainOutcome;
 use std::alloc::{AllocError, Allocator};
-use tn_message_choice::MessageChoice;
+use tn_message_choice::MessageFilter;
 use tn_moves::Plan;
 use tn_program::Program;
 
@@ -25,7 +25,7 @@ pub fn account_of<'a, A: Allocator + Copy>(
     program: &Program<A>,
     plan: &Plan<'_, A>,
     filter: &Filter<'a>,
-    message: Option<MessageChoice<'a>>,
+    message: Option<MessageFilter<'a>>,
 ) -> Result<(ExplainOutcome, Vec<u8, A>), AllocError>
     ensures { let p = program_of program.now in
         let q = account_question_seen filter.now message.entry in

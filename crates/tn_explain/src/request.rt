@@ -1,6 +1,6 @@
 // What is asked of a run, and what is written of it.
 use crate::filter::Filter;
-use tn_message_choice::MessageChoice;
+use tn_message_choice::MessageFilter;
 use tn_moves::Schedule;
 use tn_run::RunRefusal;
 
@@ -11,8 +11,8 @@ pub struct ExplainRequest<'a> {
     pub schedule: Schedule<'a>,
     /// The session and the move that are asked for.
     pub filter: Filter<'a>,
-    /// The message by which moves are chosen, where one is asked for.
-    pub message: Option<MessageChoice<'a>>,
+    /// The message by which moves are asked for, where one is.
+    pub message: Option<MessageFilter<'a>>,
 }
 
 /// What was written.
@@ -28,6 +28,6 @@ pub enum ExplainOutcome {
     NoMove,
     /// Nothing: of the moves that are asked for a running node is known to do none otherwise.
     NoDifference,
-    /// Nothing: of the run's moves none is chosen by the message that is asked for.
+    /// Nothing: of the run's moves none is chosen by the message that is asked for, or has the message of the number.
     NoMessage,
 }

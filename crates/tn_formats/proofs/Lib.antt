@@ -4,3 +4,5 @@ mod PickLemmas
 mod Appends
 mod AsciiLemmas
 mod MemberTokens
+mod LoadLemmas
+mod MovedLemmas

@@ -3,11 +3,14 @@ use Rattle.def_formats.specs.Sections as definition
 use Rattle.def_formats.specs.Sections.{session_section, replies_section, journal_section}
 use Rattle.def_formats.specs.Summaries as summaries
 use Rattle.def_formats.specs.Formats as formats
-use Rattle.def_formats.specs.Formats.{summary_format, output_format, account_format, text_format}
+use Rattle.def_formats.specs.Colours as colours
+use Rattle.def_formats.specs.Formats.{summary_format, output_format, load_format, account_format, text_format, colour_format}
 use Rattle.tn_formats.specs.declared.format.Format.{Format}
-use Rattle.tn_formats.specs.declared.format.Format.TheVariants.{Summary, OutputJson, AccountJson, TextJson}
+use Rattle.tn_formats.specs.declared.format.Format.TheVariants.{Summary, OutputJson, SummaryJson, AccountJson, TextJson, Coloured}
 use Rattle.tn_formats.specs.declared.atom.Section.{Section}
 use Rattle.tn_formats.specs.declared.atom.Section.TheVariants.{Session, Replies, Journal}
+use Rattle.tn_formats.specs.declared.colours.Style.{Style}
+use Rattle.tn_formats.specs.declared.colours.Style.TheVariants.{AsItIs, Bold, Green, Yellow, Magenta, Cyan}
 use Rattle.tn_formats.specs.declared.load.Load.{Load}
 use Rattle.tn_formats.specs.declared.longest.NumberedLine.{NumberedLine}
 
@@ -25,5 +28,15 @@ line_seen m = record { number = m.number; line = m.line.now }
 abbrev pub format_seen : Format → formats.Format
 format_seen Summary = summary_format
 format_seen OutputJson = output_format
+format_seen SummaryJson = load_format
 format_seen AccountJson = account_format
 format_seen TextJson = text_format
+format_seen Coloured = colour_format
+
+abbrev pub style_seen : Style → colours.Style
+style_seen AsItIs = colours.as_it_is
+style_seen Bold = colours.bold
+style_seen Green = colours.green
+style_seen Yellow = colours.yellow
+style_seen Magenta = colours.magenta
+style_seen Cyan = colours.cyan

@@ -37,7 +37,10 @@ fn put_messages<A: Allocator>(
 }
 
 /// Appends a row for each reply of a section.
-fn put_replies<A: Allocator>(out: JsonText<A>, text: &[u8]) -> Result<JsonText<A>, AllocError>
+pub(crate) fn put_replies<A: Allocator>(
+    out: JsonText<A>,
+    text: &[u8],
+) -> Result<JsonText<A>, AllocError>
     ensures { IfOk result (λ v. v.lines.items ≡
         out.lines.items ++ json_lines (numbered_rows reply_row 1 (section_lines text.now))) }
 {
@@ -53,7 +56,10 @@ fn put_replies<A: Allocator>(out: JsonText<A>, text: &[u8]) -> Result<JsonText<A
 }
 
 /// Appends the row of the journal.
-fn put_journal<A: Allocator>(out: JsonText<A>, text: &[u8]) -> Result<JsonText<A>, AllocError>
+pub(crate) fn put_journal<A: Allocator>(
+    out: JsonText<A>,
+    text: &[u8],
+) -> Result<JsonText<A>, AllocError>
     ensures { IfOk result (λ v. v.lines.items ≡
         out.lines.items ++ json_line (journal_row (journal_picks (section_lines text.now)))) }
 {

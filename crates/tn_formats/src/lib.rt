@@ -1,17 +1,21 @@
 //! The formats of what a command writes, beside the plain one: the summary of an output, and JSON lines.
 //!
 //! Depends on def_formats and on the kit's `json`, which writes each JSON value. Promises that `in_format` gives the
-//! text that is defined for a plain text and a format, `first_line` the first line of a text, and that each function
-//! which writes a row or a member writes the defined one.
+//! text that is defined for a plain text and a format, `moved_json` that of an output and the moves of its messages,
+//! `first_line` the first line of a text, and that each function which writes a row or a member writes the defined one.
 #![tactic(auto)]
 
+mod account_members;
 mod atom;
+mod colours;
 mod format;
 mod json_lines;
 mod line_members;
 mod lines;
 mod load;
+mod load_rows;
 mod longest;
+mod moved_rows;
 mod parts;
 mod picks;
 mod refusal;
@@ -22,6 +26,7 @@ mod values;
 
 pub use format::{Format, in_format};
 pub use lines::first_line;
+pub use moved_rows::{journal_text, moved_json};
 pub use refusal::refusal_json;
 pub use rows::{JsonText, Names, begin_row, end_row, no_rows, put_message_row, put_session_row};
 pub use values::{put_boolean_member, put_number_member, put_numbers, put_text_member};

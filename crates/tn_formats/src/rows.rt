@@ -7,6 +7,7 @@ ghost use Rattle.def_formats.specs.JsonRows.{json_line, session_row, message_row
 ghost use Rattle.def_formats.specs.JsonRows.{move_row, made_row};
 ghost use Rattle.tn_formats.specs.Tokens.{AddsTokens, session_tokens, message_tokens, move_tokens};
 
+use crate::account_members::put_account_members;
 use crate::atom::cut_atom;
 use crate::line_members::put_line_members;
 use crate::parts::{cut_at, message_parts, without_front};
@@ -76,7 +77,10 @@ pub struct Names<'a> {
 }
 
 /// Writes the members that name a session.
-fn put_names<A: Allocator>(writer: &mut Writer<A>, names: Names<'_>) -> Result<(), AllocError>
+pub(crate) fn put_names<A: Allocator>(
+    writer: &mut Writer<A>,
+    names: Names<'_>,
+) -> Result<(), AllocError>
     ensures { AddsTokens result writer.old writer.new (session_tokens names.entry.name.now names.entry.tracer.now) }
 {
     put_text_member(writer, "session", names.name)?;
@@ -230,6 +234,6 @@ pub(crate) fn put_made_row<A: Allocator>(
     put_move(&mut writer, move_parts(move_line))?;
     put_text_member(&mut writer, "session", name)?;
     put_text_member(&mut writer, "line", said)?;
-    put_line_members(&mut writer, said)?;
+    put_account_members(&mut writer, said)?;
     end_row(lines, writer)
 }

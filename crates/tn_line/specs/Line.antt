@@ -3,7 +3,7 @@ use Rattle.std.specs.Prelude.{◌≡◌, ℕ, pos, List, [], ◌∷◌, ◌++◌
 use Rattle.clap.specs.declared.builder.arg.Arg.{Arg}
 use Rattle.clap.specs.declared.builder.arg_group.ArgGroup.{ArgGroup}
 use Rattle.clap.specs.declared.builder.action.ArgAction.TheVariants.{Append, Set, SetTrue}
-use Rattle.clap.specs.declared.builder.value_parser.ValueParser.TheVariants.{Signed}
+use Rattle.clap.specs.declared.builder.value_parser.ValueParser.TheVariants.{Signed, Unsigned}
 use Rattle.clap.specs.declared.builder.command.Command.{Command}
 use Rattle.clap.specs.declared.builder.command.Command.TheViews.{out-Command}
 use Rattle.clap.specs.Facts.{args_of, groups_of}
@@ -32,6 +32,10 @@ IsElse value a = (rule_of a).defaults ≡ value ∷ []
 -- the value is a number from the least to the most
 abbrev pub IsFromTo : ℕ → ℕ → Arg → Type 0
 IsFromTo least most a = a.value_parser ≡ Some (Signed (pos least) (pos most))
+
+-- the same of a number that has 64 bits
+abbrev pub IsCountFromTo : ℕ → ℕ → Arg → Type 0
+IsCountFromTo least most a = a.value_parser ≡ Some (Unsigned least most)
 
 -- the names of a command's arguments, in their order
 abbrev pub argument_names : Command → List (List ℕ)
@@ -79,7 +83,7 @@ BY_PICKS_OR_ROUNDS = BY_PICKS ++ codes "round" ∷ codes "limit" ∷ codes "cont
 
 -- the arguments that say in which format the output is, and which listing it must have
 abbrev pub FORMATS : List (List ℕ)
-FORMATS = codes "summary" ∷ codes "json" ∷ codes "expect-session" ∷ []
+FORMATS = codes "summary" ∷ codes "json" ∷ codes "color" ∷ codes "expect-session" ∷ []
 
 -- the command has these arguments after its own, and wants its picks as it did
 pub record IsWithFormats (old new : Command) : Type 0 where
@@ -88,7 +92,7 @@ pub record IsWithFormats (old new : Command) : Type 0 where
 
 -- the arguments that say what the output must be, whether each command must be done, how long the output may be, and which file it goes to
 abbrev pub EXPECTATION : List (List ℕ)
-EXPECTATION = codes "expect" ∷ codes "expect-line" ∷ codes "reject-line" ∷ codes "strict" ∷ codes "max-output" ∷ codes "output" ∷ []
+EXPECTATION = codes "expect" ∷ codes "expect-line" ∷ codes "reject-line" ∷ codes "strict" ∷ codes "max-output" ∷ codes "max-memory" ∷ codes "output" ∷ []
 
 -- the command has these arguments after its own, and wants its picks as it did
 pub record IsWithExpectation (old new : Command) : Type 0 where
@@ -97,17 +101,17 @@ pub record IsWithExpectation (old new : Command) : Type 0 where
 
 -- the arguments of `run`
 abbrev pub RUN : List (List ℕ)
-RUN = codes "script" ∷ codes "limit" ∷ codes "quiet" ∷ codes "summary" ∷ codes "json" ∷ codes "expect-session" ∷ EXPECTATION
+RUN = codes "script" ∷ codes "limit" ∷ codes "quiet" ∷ codes "summary" ∷ codes "json" ∷ codes "color" ∷ codes "expect-session" ∷ EXPECTATION
 
 -- the arguments of `replay`
 abbrev pub REPLAY : List (List ℕ)
-REPLAY = codes "script" ∷ codes "picks" ∷ codes "picks-file" ∷ codes "moves" ∷ codes "moves-file" ∷ codes "quiet" ∷ codes "summary" ∷ codes "json" ∷ codes "expect-session" ∷ EXPECTATION
+REPLAY = codes "script" ∷ codes "picks" ∷ codes "picks-file" ∷ codes "moves" ∷ codes "moves-file" ∷ codes "quiet" ∷ codes "summary" ∷ codes "json" ∷ codes "color" ∷ codes "expect-session" ∷ EXPECTATION
 
 -- the arguments of `explain`
 abbrev pub EXPLAIN : List (List ℕ)
 EXPLAIN =
     codes "script" ∷ codes "picks" ∷ codes "picks-file" ∷ codes "moves" ∷ codes "moves-file" ∷ codes "round" ∷ codes "limit" ∷ codes "control"
-    ∷ codes "session" ∷ codes "move" ∷ codes "node" ∷ codes "message" ∷ codes "why-not" ∷ codes "json" ∷ EXPECTATION
+    ∷ codes "number" ∷ codes "session" ∷ codes "move" ∷ codes "node" ∷ codes "message" ∷ codes "why-not" ∷ codes "json" ∷ EXPECTATION
 
 -- the arguments of `state`
 abbrev pub STATE : List (List ℕ)
@@ -119,15 +123,15 @@ STATE =
 abbrev pub DRAW : List (List ℕ)
 DRAW =
     codes "script" ∷ codes "picks" ∷ codes "picks-file" ∷ codes "moves" ∷ codes "moves-file" ∷ codes "round" ∷ codes "limit" ∷ codes "control"
-    ∷ codes "text" ∷ EXPECTATION
+    ∷ codes "text" ∷ codes "json" ∷ EXPECTATION
 
 -- the arguments of `round`
 abbrev pub ROUND : List (List ℕ)
-ROUND = codes "script" ∷ codes "limit" ∷ codes "control" ∷ codes "quiet" ∷ codes "summary" ∷ codes "json" ∷ codes "expect-session" ∷ EXPECTATION
+ROUND = codes "script" ∷ codes "limit" ∷ codes "control" ∷ codes "quiet" ∷ codes "summary" ∷ codes "json" ∷ codes "color" ∷ codes "expect-session" ∷ EXPECTATION
 
 -- the arguments of `workers`
 abbrev pub WORKERS : List (List ℕ)
-WORKERS = codes "script" ∷ codes "n" ∷ codes "turns" ∷ codes "spread" ∷ codes "quiet" ∷ codes "summary" ∷ codes "json" ∷ codes "expect-session" ∷ EXPECTATION
+WORKERS = codes "script" ∷ codes "n" ∷ codes "turns" ∷ codes "spread" ∷ codes "quiet" ∷ codes "summary" ∷ codes "json" ∷ codes "color" ∷ codes "expect-session" ∷ EXPECTATION
 
 -- the arguments of `spec`
 abbrev pub TRIAL : List (List ℕ)
@@ -144,7 +148,7 @@ SCHEDULES = codes "script" ∷ codes "after" ∷ codes "control" ∷ codes "orde
 -- the arguments of `explore`
 abbrev pub EXPLORE_ARGUMENTS : List (List ℕ)
 EXPLORE_ARGUMENTS =
-    SCHEDULES ++ codes "shows" ∷ codes "always" ∷ codes "never" ∷ codes "sometimes" ∷ codes "random" ∷ codes "seed" ∷ codes "reduce" ∷ codes "max-states" ∷ codes "max-output" ∷ codes "output" ∷ []
+    SCHEDULES ++ codes "shows" ∷ codes "always" ∷ codes "never" ∷ codes "sometimes" ∷ codes "random" ∷ codes "seed" ∷ codes "reduce" ∷ codes "max-states" ∷ codes "max-output" ∷ codes "max-memory" ∷ codes "output" ∷ []
 
 -- which trace, with which schedules it is compared, and whether the answer is JSON
 abbrev pub TRACES : List (List ℕ)
@@ -152,7 +156,7 @@ TRACES = codes "script" ∷ codes "trace" ∷ codes "prefix" ∷ codes "after" �
 
 -- the arguments of `compare`
 abbrev pub COMPARE_ARGUMENTS : List (List ℕ)
-COMPARE_ARGUMENTS = TRACES ++ codes "order" ∷ codes "session" ∷ codes "max-states" ∷ codes "max-output" ∷ codes "output" ∷ []
+COMPARE_ARGUMENTS = TRACES ++ codes "order" ∷ codes "session" ∷ codes "max-states" ∷ codes "max-output" ∷ codes "max-memory" ∷ codes "output" ∷ []
 
 -- the commands of the program
 abbrev pub COMMAND_NAMES : List (List ℕ)

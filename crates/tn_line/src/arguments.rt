@@ -1,6 +1,7 @@
 // The arguments of the commands.
 ghost use Rattle.std.specs.Prelude.{◌≡◌, ◌∷◌, [], codes, true, IfOk};
-ghost use Rattle.tn_line.specs.Line.{IsOption, IsOptions, IsFlag, IsWord, IsElse, IsFromTo, IsOneOf, Excludes};
+ghost use Rattle.tn_line.specs.Line.{IsOption, IsOptions, IsFlag, IsWord, IsElse, IsFromTo, IsCountFromTo, IsOneOf};
+ghost use Rattle.tn_line.specs.Line.{Excludes};
 ghost use Rattle.tn_line.specs.Line.{PICKS, PICKS_OR_ROUND};
 
 use clap::{Arg, ArgAction, ArgGroup, value_parser};
@@ -23,7 +24,7 @@ pub(crate) fn picks<'a>(alloc: Global) -> Arg<'a>
     Arg::new(alloc, "picks")
         .long("picks")
         .value_name("TEXT")
-        .help("The picks: decimal numbers, one space between\neach two")
+        .help("The picks: decimal numbers, one space\nbetween each two")
         .allow_hyphen_values(true)
         .action(ArgAction::Set)
 }
@@ -35,7 +36,7 @@ pub(crate) fn picks_file<'a>(alloc: Global) -> Arg<'a>
     Arg::new(alloc, "picks-file")
         .long("picks-file")
         .value_name("FILE")
-        .help("The file of the picks; standard input where it is -")
+        .help("The file of the picks; standard input\nwhere it is -")
         .action(ArgAction::Set)
 }
 
@@ -46,7 +47,7 @@ pub(crate) fn moves<'a>(alloc: Global) -> Arg<'a>
     Arg::new(alloc, "moves")
         .long("moves")
         .value_name("TEXT")
-        .help("The moves: N, N*K, N!, where N is a number or a\nfunction, and * for everybody")
+        .help("The moves: N, N*K, N!, where N is a\nnumber or a function, and * for everybody")
         .allow_hyphen_values(true)
         .action(ArgAction::Set)
 }
@@ -58,7 +59,7 @@ pub(crate) fn moves_file<'a>(alloc: Global) -> Arg<'a>
     Arg::new(alloc, "moves-file")
         .long("moves-file")
         .value_name("FILE")
-        .help("The file of the moves; standard input where it is -")
+        .help("The file of the moves; standard input\nwhere it is -")
         .action(ArgAction::Set)
 }
 
@@ -104,7 +105,7 @@ pub(crate) fn summary<'a>(alloc: Global) -> Arg<'a>
 {
     Arg::new(alloc, "summary")
         .long("summary")
-        .help("Prints how many messages and bytes each session\nhas, in place of the messages")
+        .help("Prints how many messages and bytes each\nsession has, in place of the messages")
         .action(ArgAction::SetTrue)
 }
 
@@ -116,6 +117,21 @@ pub(crate) fn json<'a>(alloc: Global) -> Arg<'a>
         .long("json")
         .help("Prints JSON, a value a line")
         .action(ArgAction::SetTrue)
+}
+
+/// What `--color` may be given.
+pub(crate) const WHENS: &[&str] = &["auto", "always", "never"];
+
+/// `--color WHEN`.
+pub(crate) fn color<'a>(alloc: Global) -> Arg<'a>
+    ensures { IsOption (codes "color") result }
+{
+    Arg::new(alloc, "color")
+        .long("color")
+        .value_name("WHEN")
+        .help("When trace messages are in colours: auto, on a\nterminal, always or never")
+        .value_parser(WHENS)
+        .action(ArgAction::Set)
 }
 
 /// `--json`, which no command takes beside `--summary`.
@@ -133,7 +149,7 @@ pub(crate) fn expect_session<'a>(alloc: Global) -> Result<Arg<'a>, AllocError>
         .long("expect-session")
         .value_names(LISTING)
         .num_args(2)
-        .help("The listing of this session must be these lines,\nor else the exit status is 1")
+        .help("The listing of this session must be these\nlines, or else the exit status is 1")
         .action(ArgAction::Set)
         .conflicts_with("json")
 }
@@ -149,7 +165,7 @@ pub(crate) fn expect<'a>(alloc: Global) -> Arg<'a>
         .long("expect")
         .value_name("FILE")
         .help(
-            "The output must be the bytes of this file, or else\nthe exit status is 1; - is standard input",
+            "The output must be the bytes of this file,\nor else the exit status is 1; - is\nstandard input",
         )
         .action(ArgAction::Set)
 }
@@ -162,7 +178,7 @@ pub(crate) fn expect_line<'a>(alloc: Global) -> Arg<'a>
         .long("expect-line")
         .value_name("TEXT")
         .help(
-            "The output must have this line, or else the exit\nstatus is 1; it may be given again",
+            "The output must have this line, or else\nthe exit status is 1; it may be given\nagain",
         )
         .allow_hyphen_values(true)
         .action(ArgAction::Append)
@@ -176,7 +192,7 @@ pub(crate) fn reject_line<'a>(alloc: Global) -> Arg<'a>
         .long("reject-line")
         .value_name("TEXT")
         .help(
-            "The output must not have this line, or else the\nexit status is 1; it may be given again",
+            "The output must not have this line, or\nelse the exit status is 1; it may be given\nagain",
         )
         .allow_hyphen_values(true)
         .action(ArgAction::Append)
@@ -189,7 +205,7 @@ pub(crate) fn strict<'a>(alloc: Global) -> Arg<'a>
     Arg::new(alloc, "strict")
         .long("strict")
         .help(
-            "Each command must be done, and the script must have\nforms, or else the exit status is 1",
+            "Each command must be done, and the script\nmust have forms, or else the exit status\nis 1",
         )
         .action(ArgAction::SetTrue)
 }
@@ -204,9 +220,26 @@ pub(crate) fn max_output<'a>(alloc: Global) -> Arg<'a>
         .long("max-output")
         .value_name("BYTES")
         .help(
-            "How many bytes the output may have, from 1 to\n4294967295; where it has more, nothing is\nwritten",
+            "How many bytes the output may have, from 1\nto 4294967295; where it has more, nothing\nis written",
         )
         .value_parser(value_parser!(u32).range(1..=4294967295))
+        .default_value("1073741824")
+        .action(ArgAction::Set)
+}
+
+/// `--max-memory BYTES`.
+pub(crate) fn max_memory<'a>(alloc: Global) -> Arg<'a>
+    ensures named { IsOption (codes "max-memory") result }
+    ensures value { IsElse (codes "1073741824") result }
+    ensures range { IsCountFromTo 1 18446744073709551615 result }
+{
+    Arg::new(alloc, "max-memory")
+        .long("max-memory")
+        .value_name("BYTES")
+        .help(
+            "How many bytes of memory the run may take,\nfrom 1; where it needs more, nothing is\nwritten",
+        )
+        .value_parser(value_parser!(u64).range(1..))
         .default_value("1073741824")
         .action(ArgAction::Set)
 }
@@ -220,7 +253,7 @@ pub(crate) fn output<'a>(alloc: Global) -> Arg<'a>
         .short('o')
         .value_name("FILE")
         .help(
-            "The file that the output goes to, whole or not at\nall; standard output where it is absent",
+            "The file that the output goes to, whole or\nnot at all; standard output where it is\nabsent",
         )
         .action(ArgAction::Set)
 }
@@ -236,6 +269,19 @@ pub(crate) fn session<'a>(alloc: Global) -> Arg<'a>
             "Explains what the session of this name, in quotes\nor not, makes of the run, and no other",
         )
         .allow_hyphen_values(true)
+        .action(ArgAction::Set)
+}
+
+/// The second word without a name of `explain`: the number of a move, which may be the first word in place of the
+/// script.
+pub(crate) fn move_word<'a>(alloc: Global) -> Arg<'a>
+    ensures { IsWord (codes "number") result }
+{
+    Arg::new(alloc, "number")
+        .value_name("N")
+        .help(
+            "The number of the move that is explained alone, as --move N;\nit may stand before SCRIPT",
+        )
         .action(ArgAction::Set)
 }
 
@@ -276,7 +322,9 @@ pub(crate) fn message<'a>(alloc: Global) -> Result<Arg<'a>, AllocError>
     let message = Arg::new(alloc, "message")
         .long("message")
         .value_name("PATTERN")
-        .help("Explains the moves alone at which a session sends a\nmessage that matches PATTERN")
+        .help(
+            "Explains the moves alone at which a session sends a\nmessage that matches PATTERN, or its message of this\nnumber, counted from 1, where PATTERN is digits",
+        )
         .allow_hyphen_values(true)
         .action(ArgAction::Set);
     without_moves(message, "why-not")
@@ -298,14 +346,15 @@ pub(crate) fn why_not<'a>(alloc: Global) -> Result<Arg<'a>, AllocError>
     without_moves(why_not, "message")
 }
 
-/// `--text`.
-pub(crate) fn text<'a>(alloc: Global) -> Arg<'a>
-    ensures { IsFlag (codes "text") result }
+/// `--text`, which no command takes beside `--json`.
+pub(crate) fn text<'a>(alloc: Global) -> Result<Arg<'a>, AllocError>
+    ensures { IfOk result (IsFlag (codes "text")) }
 {
     Arg::new(alloc, "text")
         .long("text")
         .help("Writes lines for a terminal, and no SVG")
         .action(ArgAction::SetTrue)
+        .conflicts_with("json")
 }
 
 /// `--limit N`.
@@ -333,7 +382,7 @@ pub(crate) fn control<'a>(alloc: Global) -> Arg<'a>
     Arg::new(alloc, "control")
         .long("control")
         .value_name("ORDER")
-        .help("When all commands of the control list are taken:\nfirst, before the rounds")
+        .help("When all commands of the control list are\ntaken: first, before the rounds\n")
         .value_parser(ORDERS)
         .action(ArgAction::Set)
 }
@@ -394,7 +443,7 @@ pub(crate) fn spread<'a>(alloc: Global) -> Arg<'a>
         .long("spread")
         .value_name("SEED")
         .help(
-            "Each turn gives way to other workers some times, by\nthis number, so that races show",
+            "Each turn gives way to other workers some\ntimes, by this number, so that races show",
         )
         .value_parser(value_parser!(u32))
         .action(ArgAction::Set)

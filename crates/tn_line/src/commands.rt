@@ -6,11 +6,11 @@ ghost use Rattle.tn_line.specs.Line.{PICKS, PICKS_OR_ROUND, BY_PICKS, BY_PICKS_O
 ghost use Rattle.tn_line.specs.Line.{RUN, REPLAY, EXPLAIN, DRAW, ROUND, WORKERS, TRIAL};
 
 use crate::arguments::{
-    caller, control, event, expect, expect_line, expect_session, in_rounds, json, json_alone,
-    limit, list, max_output, message, move_number, moves, moves_file, node, of_fun, one_of_picks,
-    output, own_process, picks, picks_file, picks_or_round, quiet, reject_line, script, session,
-    spec_file, specification, spread, strict, summary, text, turns, why_not, without_picks,
-    worker_count,
+    caller, color, control, event, expect, expect_line, expect_session, in_rounds, json, limit,
+    list, max_memory, max_output, message, move_number, move_word, moves, moves_file, node, of_fun,
+    one_of_picks, output, own_process, picks, picks_file, picks_or_round, quiet, reject_line,
+    script, session, spec_file, specification, spread, strict, summary, text, turns, why_not,
+    without_picks, worker_count,
 };
 use crate::compare_command::compare;
 use crate::explore_command::explore;
@@ -45,18 +45,57 @@ Exit status:
      --max-output
   4  an exploration or a comparison that ended before it had tried all states";
 
+/// What stands below the help of `run`.
+const RUN_EXAMPLE: &str = "\
+Example:
+  tracenode run examples/numbers.term";
+
+/// What stands below the help of `replay`.
+const REPLAY_EXAMPLE: &str = "\
+Example:
+  tracenode replay examples/numbers.term --moves '0! go!'";
+
+/// What stands below the help of `round`.
+const ROUND_EXAMPLE: &str = "\
+Example:
+  tracenode round examples/numbers.term --control first";
+
+/// What stands below the help of `workers`.
+const WORKERS_EXAMPLE: &str = "\
+Example:
+  tracenode workers examples/numbers.term --n 2";
+
+/// What stands below the help of `explain`.
+const EXPLAIN_EXAMPLE: &str = "\
+N is decimal digits; a file with such a name is given as ./N.
+
+Example:
+  tracenode explain examples/numbers.term 9 --moves '0! go!'";
+
+/// What stands below the help of `draw`.
+const DRAW_EXAMPLE: &str = "\
+Example:
+  tracenode draw examples/numbers.term --round --text";
+
+/// What stands below the help of `spec`.
+const SPEC_EXAMPLE: &str = "\
+Example:
+  tracenode spec --list '[7]' --fun 'fun([X]) when X > 5 -> message(X) end'";
+
 /// A command that runs the script by picks or moves, with `--picks TEXT`, `--picks-file FILE`, `--moves TEXT` or
-/// `--moves-file FILE`, where these are among the sources of picks.
+/// `--moves-file FILE`, where these are among the sources of picks. The example stands below its help.
 fn by_picks<'a>(
     alloc: Global,
     name: &'a str,
     about: &'a str,
+    example: &'a str,
     sources: ArgGroup<'a>,
 ) -> Result<Command<'a>, AllocError>
     ensures arguments { IfOk result (IsCommand name.entry.now BY_PICKS) }
     ensures picks { IfOk result (WantsBy sources.entry) }
 {
     Command::new(alloc, name)
+        .after_help(example)
         .about(about)
         .arg(script(alloc))?
         .arg(picks(alloc))?
@@ -66,19 +105,21 @@ fn by_picks<'a>(
         .group(sources)
 }
 
-/// The command with `[--summary] [--json] [--expect-session NAME FILE]` more, which say in which format its output is,
-/// and which listing it must have.
+/// The command with `[--summary] [--json] [--color WHEN] [--expect-session NAME FILE]` more, which say in which format
+/// its output is, and which listing it must have.
 fn with_formats<'a>(alloc: Global, command: Command<'a>) -> Result<Command<'a>, AllocError>
     ensures { IfOk result (IsWithFormats command.entry) }
 {
     command
         .arg(summary(alloc))?
-        .arg(json_alone(alloc)?)?
+        .arg(json(alloc))?
+        .arg(color(alloc))?
         .arg(expect_session(alloc)?)
 }
 
 /// The command with `[--expect FILE] [--expect-line TEXT] [--reject-line TEXT] [--strict] [--max-output BYTES]
-/// [--output FILE]` more, which say what its output must be, and its commands, and which file the output goes to.
+/// [--max-memory BYTES] [--output FILE]` more, which say what its output must be, and its commands, how much it may
+/// take, and which file the output goes to.
 pub(crate) fn with_expectation<'a>(
     alloc: Global,
     command: Command<'a>,
@@ -91,6 +132,7 @@ pub(crate) fn with_expectation<'a>(
         .arg(reject_line(alloc))?
         .arg(strict(alloc))?
         .arg(max_output(alloc))?
+        .arg(max_memory(alloc))?
         .arg(output(alloc))
 }
 
@@ -101,7 +143,7 @@ fn replay<'a>(alloc: Global) -> Result<Command<'a>, AllocError>
 {
     let about = "Runs the script by the given picks or moves, and prints what its\nsessions saw";
     let sources = one_of_picks(alloc)?;
-    let command = by_picks(alloc, "replay", about, sources)?.arg(quiet(alloc))?;
+    let command = by_picks(alloc, "replay", about, REPLAY_EXAMPLE, sources)?.arg(quiet(alloc))?;
     let command = with_formats(alloc, command)?;
     with_expectation(alloc, command)
 }
@@ -111,6 +153,7 @@ pub(crate) fn by_picks_or_rounds<'a>(
     alloc: Global,
     name: &'a str,
     about: &'a str,
+    example: &'a str,
 ) -> Result<Command<'a>, AllocError>
     ensures arguments { IfOk result (IsCommand name.entry.now BY_PICKS_OR_ROUNDS) }
     ensures picks { IfOk result (WantsOneOf PICKS_OR_ROUND) }
@@ -118,21 +161,23 @@ pub(crate) fn by_picks_or_rounds<'a>(
     let sources = picks_or_round(alloc)?;
     let limit = without_picks(limit(alloc))?;
     let control = without_picks(control(alloc))?;
-    by_picks(alloc, name, about, sources)?
+    by_picks(alloc, name, about, example, sources)?
         .arg(in_rounds(alloc))?
         .arg(limit)?
         .arg(control)
 }
 
-/// The subcommand `explain [SCRIPT] [--session NAME] [--move N] [--node] [--message PATTERN] [--why-not PATTERN]
-/// [--json]` with picks, moves or `--round [--limit N] [--control first]`, and with what its output must be.
+/// The subcommand `explain [SCRIPT] [N] [--session NAME] [--move N] [--node] [--message PATTERN] [--why-not PATTERN]
+/// [--json]` with picks, moves or `--round [--limit N] [--control first]`, and with what its output must be. N may
+/// stand before SCRIPT too.
 fn explain<'a>(alloc: Global) -> Result<Command<'a>, AllocError>
     ensures arguments { IfOk result (IsCommand (codes "explain") EXPLAIN) }
     ensures picks { IfOk result (WantsOneOf PICKS_OR_ROUND) }
 {
     let about =
         "Runs the script by picks, moves or rounds, and prints why each\nsession tells or doesn't";
-    let command = by_picks_or_rounds(alloc, "explain", about)?
+    let command = by_picks_or_rounds(alloc, "explain", about, EXPLAIN_EXAMPLE)?
+        .arg(move_word(alloc))?
         .arg(session(alloc))?
         .arg(move_number(alloc))?
         .arg(node(alloc))?
@@ -142,15 +187,17 @@ fn explain<'a>(alloc: Global) -> Result<Command<'a>, AllocError>
     with_expectation(alloc, command)
 }
 
-/// The subcommand `draw [SCRIPT] [--text]` with picks, moves or `--round [--limit N] [--control first]`, and with what
-/// its output must be.
+/// The subcommand `draw [SCRIPT] [--text|--json]` with picks, moves or `--round [--limit N] [--control first]`, and
+/// with what its output must be.
 fn draw<'a>(alloc: Global) -> Result<Command<'a>, AllocError>
     ensures arguments { IfOk result (IsCommand (codes "draw") DRAW) }
     ensures picks { IfOk result (WantsOneOf PICKS_OR_ROUND) }
 {
     let about =
         "Runs the script by picks, moves or rounds, and prints a sequence\ndiagram of it as SVG";
-    let command = by_picks_or_rounds(alloc, "draw", about)?.arg(text(alloc))?;
+    let command = by_picks_or_rounds(alloc, "draw", about, DRAW_EXAMPLE)?
+        .arg(text(alloc)?)?
+        .arg(json(alloc))?;
     with_expectation(alloc, command)
 }
 
@@ -159,6 +206,7 @@ fn run<'a>(alloc: Global) -> Result<Command<'a>, AllocError>
     ensures { IfOk result (IsCommand (codes "run") RUN) }
 {
     let command = Command::new(alloc, "run")
+        .after_help(RUN_EXAMPLE)
         .about(
             "Takes the control list, and then runs all processes in rounds, until\nnothing moves",
         )
@@ -174,6 +222,7 @@ fn round<'a>(alloc: Global) -> Result<Command<'a>, AllocError>
     ensures { IfOk result (IsCommand (codes "round") ROUND) }
 {
     let command = Command::new(alloc, "round")
+        .after_help(ROUND_EXAMPLE)
         .about("Runs the script in rounds of all processes, until nothing moves")
         .arg(script(alloc))?
         .arg(limit(alloc))?
@@ -189,6 +238,7 @@ fn workers<'a>(alloc: Global) -> Result<Command<'a>, AllocError>
     ensures { IfOk result (IsCommand (codes "workers") WORKERS) }
 {
     let command = Command::new(alloc, "workers")
+        .after_help(WORKERS_EXAMPLE)
         .about("Runs the script by workers in threads, and then until nothing moves")
         .arg(script(alloc))?
         .arg(worker_count(alloc))?
@@ -205,6 +255,7 @@ fn spec<'a>(alloc: Global) -> Result<Command<'a>, AllocError>
     ensures { IfOk result (IsCommand (codes "spec") TRIAL) }
 {
     Command::new(alloc, "spec")
+        .after_help(SPEC_EXAMPLE)
         .about(
             "Holds one match specification against a list, and prints why each\nclause fires or doesn't",
         )

@@ -2,10 +2,15 @@
 ghost use Rattle.std.specs.Prelude.{codes, IfOk};
 ghost use Rattle.tn_line.specs.Line.{COMPARE_ARGUMENTS, TRACES, IsCommand, IsFlag, IsOption};
 
-use crate::arguments::{json, max_output, output, script};
+use crate::arguments::{json, max_memory, max_output, output, script};
 use crate::explore_command::{after, first_control, listing_order, max_states, one_session};
 use clap::{Arg, ArgAction, Command};
 use std::alloc::{AllocError, Global};
+
+/// What stands below the help of `compare`.
+const EXAMPLE: &str = "\
+Example:
+  tracenode compare examples/race.term --trace examples/race.trace";
 
 /// `--trace FILE`, which is required.
 fn trace<'a>(alloc: Global) -> Arg<'a>
@@ -35,6 +40,7 @@ fn traces<'a>(alloc: Global) -> Result<Command<'a>, AllocError>
     ensures { IfOk result (IsCommand (codes "compare") TRACES) }
 {
     Command::new(alloc, "compare")
+        .after_help(EXAMPLE)
         .about(
             "Says whether a trace that a node printed is one of a run of the\nscript, and of which",
         )
@@ -47,7 +53,7 @@ fn traces<'a>(alloc: Global) -> Result<Command<'a>, AllocError>
 }
 
 /// The subcommand `compare [SCRIPT] --trace FILE [--prefix] [--after MOVES] [--control first] [--order ORDER]
-/// [--session NAME] [--json] [--max-states N] [--max-output BYTES] [--output FILE]`.
+/// [--session NAME] [--json] [--max-states N] [--max-output BYTES] [--max-memory BYTES] [--output FILE]`.
 pub(crate) fn compare<'a>(alloc: Global) -> Result<Command<'a>, AllocError>
     ensures { IfOk result (IsCommand (codes "compare") COMPARE_ARGUMENTS) }
 {
@@ -56,5 +62,6 @@ pub(crate) fn compare<'a>(alloc: Global) -> Result<Command<'a>, AllocError>
         .arg(one_session(alloc))?
         .arg(max_states(alloc))?
         .arg(max_output(alloc))?
+        .arg(max_memory(alloc))?
         .arg(output(alloc))
 }

@@ -3,7 +3,7 @@ ghost use Rattle.std.specs.Prelude.{codes, IfOk};
 ghost use Rattle.tn_line.specs.Line.{EXPLORE_ARGUMENTS, SCHEDULES, IsCommand, IsElse, IsFlag, IsFromTo, IsOption};
 ghost use Rattle.tn_line.specs.Line.{IsOptions};
 
-use crate::arguments::{ORDERS, json_alone, max_output, output, script, summary};
+use crate::arguments::{ORDERS, json_alone, max_memory, max_output, output, script, summary};
 use clap::{Arg, ArgAction, Command, value_parser};
 use std::alloc::{AllocError, Global};
 
@@ -33,6 +33,11 @@ pub(crate) fn first_control<'a>(alloc: Global) -> Result<Arg<'a>, AllocError>
         .action(ArgAction::Set)
         .conflicts_with("after")
 }
+
+/// What stands below the help of `explore`.
+const EXAMPLE: &str = "\
+Example:
+  tracenode explore examples/race.term";
 
 /// Which messages of a session may be in an order.
 const LISTING_ORDERS: &[&str] = &["process", "total"];
@@ -174,7 +179,7 @@ fn reduce<'a>(alloc: Global) -> Result<Arg<'a>, AllocError>
     Arg::new(alloc, "reduce")
         .long("reduce")
         .help(
-            "Tries a move alone that is independent of all others: the same listings, of fewer states",
+            "Tries a move alone that is independent of all\nothers: the same listings, of fewer states",
         )
         .action(ArgAction::SetTrue)
         .conflicts_with("random")
@@ -185,6 +190,7 @@ fn schedules<'a>(alloc: Global) -> Result<Command<'a>, AllocError>
     ensures { IfOk result (IsCommand (codes "explore") SCHEDULES) }
 {
     Command::new(alloc, "explore")
+        .after_help(EXAMPLE)
         .about("Runs the script by all schedules, and prints each listing that a\nsession can have")
         .arg(script(alloc))?
         .arg(after(alloc))?
@@ -197,7 +203,7 @@ fn schedules<'a>(alloc: Global) -> Result<Command<'a>, AllocError>
 
 /// The subcommand `explore [SCRIPT] [--after MOVES] [--control first] [--order ORDER] [--session NAME]
 /// [--summary] [--json] [--shows PATTERN] [--always PATTERN] [--never PATTERN] [--sometimes PATTERN] [--random N]
-/// [--seed S] [--reduce] [--max-states N] [--max-output BYTES] [--output FILE]`.
+/// [--seed S] [--reduce] [--max-states N] [--max-output BYTES] [--max-memory BYTES] [--output FILE]`.
 pub(crate) fn explore<'a>(alloc: Global) -> Result<Command<'a>, AllocError>
     ensures { IfOk result (IsCommand (codes "explore") EXPLORE_ARGUMENTS) }
 {
@@ -211,5 +217,6 @@ pub(crate) fn explore<'a>(alloc: Global) -> Result<Command<'a>, AllocError>
         .arg(reduce(alloc)?)?
         .arg(max_states(alloc))?
         .arg(max_output(alloc))?
+        .arg(max_memory(alloc))?
         .arg(output(alloc))
 }

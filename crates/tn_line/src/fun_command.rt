@@ -6,6 +6,11 @@ use crate::arguments::EVENTS;
 use clap::{Arg, ArgAction, Command};
 use std::alloc::{AllocError, Global};
 
+/// What stands below the help of `fun`.
+const EXAMPLE: &str = "\
+Example:
+  tracenode fun 'fun([M,N]) when N > 3 -> message(M) end'";
+
 /// `--for EVENT` of `fun`.
 fn fun_event<'a>(alloc: Global) -> Arg<'a>
     ensures named { IsOption (codes "for") result }
@@ -46,6 +51,7 @@ pub(crate) fn fun<'a>(alloc: Global) -> Result<Command<'a>, AllocError>
     ensures { IfOk result (IsCommand (codes "fun") FUN_ARGUMENTS) }
 {
     Command::new(alloc, "fun")
+        .after_help(EXAMPLE)
         .about(
             "Prints the match specification of a fun, as dbg:fun2ms/1 has it, or\nwhy it has none",
         )

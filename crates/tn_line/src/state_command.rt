@@ -7,6 +7,11 @@ use crate::commands::{by_picks_or_rounds, with_expectation};
 use clap::{Arg, ArgAction, Command, value_parser};
 use std::alloc::{AllocError, Global};
 
+/// What stands below the help of `state`.
+const STATE_EXAMPLE: &str = "\
+Example:
+  tracenode state examples/numbers.term --moves '0! go!' --at 9";
+
 /// `--at N`, which is required.
 fn at<'a>(alloc: Global) -> Arg<'a>
     ensures named { IsOption (codes "at") result }
@@ -29,7 +34,7 @@ fn one_session<'a>(alloc: Global) -> Arg<'a>
     Arg::new(alloc, "session")
         .long("session")
         .value_name("NAME")
-        .help("Prints the session of this name, in quotes or not, and no other")
+        .help("Prints the session of this name, in quotes or not,\nand no other")
         .allow_hyphen_values(true)
         .action(ArgAction::Set)
 }
@@ -40,8 +45,8 @@ pub(crate) fn state<'a>(alloc: Global) -> Result<Command<'a>, AllocError>
     ensures arguments { IfOk result (IsCommand (codes "state") STATE) }
     ensures picks { IfOk result (WantsOneOf PICKS_OR_ROUND) }
 {
-    let about = "Runs the script by picks, moves or rounds, and prints the state after a move";
-    let command = by_picks_or_rounds(alloc, "state", about)?
+    let about = "Runs the script by picks, moves or rounds, and prints the state\nafter a move";
+    let command = by_picks_or_rounds(alloc, "state", about, STATE_EXAMPLE)?
         .arg(at(alloc))?
         .arg(one_session(alloc))?
         .arg(json(alloc))?;

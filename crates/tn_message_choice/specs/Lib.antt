@@ -1,3 +1,5 @@
 pub mod Choices
 pub mod SlotChoices
 pub mod Choosers
+pub mod Counts
+pub mod Finders

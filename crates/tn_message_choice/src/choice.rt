@@ -24,6 +24,15 @@ pub enum MessageChoice<'a> {
     SendsNone(&'a MessagePattern<Global>),
 }
 
+/// Which moves of a run are asked for by a message.
+#[derive(Clone, Copy)]
+pub enum MessageFilter<'a> {
+    /// Those that a session chooses.
+    Choice(MessageChoice<'a>),
+    /// The one at which the session that is selected sends its message of this number, counted from 1.
+    Number(u64),
+}
+
 /// What is asked of the messages of a run: by what events are chosen, and by the session of which name, where one is
 /// given.
 #[derive(Clone, Copy)]

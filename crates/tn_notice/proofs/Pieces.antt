@@ -1,8 +1,8 @@
 -- Lines as the pieces that are written one after another.
-use Rattle.std.proofs.Common.{◌≡◌, ℕ, List, ◌++◌, Some, codes, decimal, ap, ◌∙◌, append_assoc}
+use Rattle.std.proofs.Common.{◌≡◌, ℕ, List, ◌++◌, Option, Some, codes, decimal, ap, ◌∙◌, append_assoc}
 use Rattle.def_notice.specs.FaultTexts.{output_text, of_listings, of_expectation, fault_text}
 use Rattle.def_notice.specs.DifferenceTexts.{expected_output, found_output, two_lines, numbered_line, output_difference_text}
-use Rattle.def_notice.specs.NoticeTexts.{InputText, input_text_name, both_from_input, NodeCommand, node_command_text, no_value, pick_of_nobody, node_moves, notice_text}
+use Rattle.def_notice.specs.NoticeTexts.{InputText, input_text_name, both_from_input, NodeCommand, node_command_text, no_value, no_message, messages_text, pick_of_nobody, node_moves, notice_text}
 
 -- each of three, four and more texts after the first
 of_three : (a b c : List ℕ) → a ++ b ++ c ≡ a ++ (b ++ c)
@@ -56,3 +56,7 @@ pieces_of_moves n m c =
 pub pieces_of_inputs : (one other : InputText) → notice_text (both_from_input one other)
     ≡ codes "error: the " ++ (input_text_name one ++ (codes " and the " ++ (input_text_name other ++ codes " can't both be standard input")))
 pieces_of_inputs one other = of_five (codes "error: the ") (input_text_name one) (codes " and the ") (input_text_name other) (codes " can't both be standard input")
+
+pub pieces_of_message : (session : List ℕ) (n : ℕ) (messages : Option ℕ) → notice_text (no_message session n messages)
+    ≡ codes "error: the session " ++ (session ++ (codes " sends no message " ++ (decimal n ++ messages_text messages)))
+pieces_of_message session n messages = of_five (codes "error: the session ") session (codes " sends no message ") (decimal n) (messages_text messages)

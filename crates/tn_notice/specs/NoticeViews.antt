@@ -39,6 +39,7 @@ notice_seen (notices.NoValue text option reason) = texts.no_value text.now optio
 notice_seen (notices.TestText text f) = texts.of_test_text (test_text_seen text) (test_fault_seen f)
 notice_seen (notices.NoSession name sessions) = texts.no_session name.now (option_map (λ s. s.now) sessions)
 notice_seen (notices.NoMove n moves) = texts.no_move n moves
+notice_seen (notices.NoMessage session n messages) = texts.no_message session.now n messages
 notice_seen notices.NoNodeMove = texts.no_node_move
 notice_seen notices.NoChosenMove = texts.no_chosen_move
 notice_seen notices.NoForms = texts.no_forms

@@ -1,7 +1,7 @@
 // What a command says beside its output.
 ghost use Rattle.std.specs.Prelude.{Some};
 ghost use Rattle.def_notice.specs.NoticeTexts.{input_text_name, moves_text, node_command_text, notice_text};
-ghost use Rattle.def_notice.specs.NoticeTexts.{known_sessions_text};
+ghost use Rattle.def_notice.specs.NoticeTexts.{known_sessions_text, messages_text};
 ghost use Rattle.tn_notice.specs.NoticeViews.{command_seen_of, input_text_seen, known_names, notice_seen};
 
 use crate::difference::OutputDifference;
@@ -97,6 +97,24 @@ impl Display for MovesText {
     }
 }
 
+/// How many messages a session sends, where that is known.
+#[derive(Clone, Copy)]
+struct MessagesText {
+    count: Option<u64>,
+}
+
+impl Display for MessagesText {
+    ghost output = { λ m. Some (messages_text m.count) };
+
+    fn fmt<W: Write>(&self, f: &mut Formatter<W>) -> fmt::Result {
+        match self.count {
+            None => Ok(()),
+            Some(0) => f.write_str(": it sends none"),
+            Some(count) => write!(f, ": its messages are 1 to {count}"),
+        }
+    }
+}
+
 /// What a command says beside its output.
 #[derive(Clone, Copy)]
 pub enum Notice<'a> {
@@ -139,6 +157,12 @@ pub enum Notice<'a> {
     NoMove {
         number: u64,
         moves: Option<u64>,
+    },
+    /// The session sends no message with this number; where it is known, it sends so many.
+    NoMessage {
+        session: &'a str,
+        number: u64,
+        messages: Option<u64>,
     },
     /// A running node is known to do nothing otherwise.
     NoNodeMove,
@@ -210,6 +234,15 @@ impl Display for Notice<'_> {
                 f,
                 "error: the run has no move {number}{}",
                 MovesText { count: *moves }
+            ),
+            Notice::NoMessage {
+                session,
+                number,
+                messages,
+            } => write!(
+                f,
+                "error: the session {session} sends no message {number}{}",
+                MessagesText { count: *messages }
             ),
             Notice::NoNodeMove => {
                 f.write_str("note: a running node is known to do nothing otherwise there")

@@ -4,3 +4,4 @@ pub mod SlotMessages
 pub mod PaintedMoves
 pub mod SessionNames
 pub mod Cuts
+pub mod JsonMembers

@@ -3,3 +3,4 @@ pub mod Cells
 pub mod Slots
 pub mod Painters
 pub mod Requests
+pub mod JsonTokens

@@ -5,12 +5,13 @@ use Rattle.def_script.specs.Script.{Refusal}
 use Rattle.def_picture.specs.Picture.{Picture, picture_of}
 use Rattle.def_picture.specs.Plain.{plain_text}
 use Rattle.def_picture.specs.Svg.{svg_text}
+use Rattle.def_picture.specs.JsonPicture.{picture_json}
 use Rattle.tn_moves.specs.Schedules.{schedule_seen, ArePicks, HasPicks}
 use Rattle.tn_run.specs.Answers.{IsRefusedRun, text_refusal}
 use Rattle.tn_run.specs.Jobs.{JobView, failed_end}
 use Rattle.tn_run.specs.declared.fault.RunFault.{RunFault}
 use Rattle.tn_picture.specs.declared.request.PictureFormat.{PictureFormat}
-use Rattle.tn_picture.specs.declared.request.PictureFormat.TheVariants.{Svg, Plain}
+use Rattle.tn_picture.specs.declared.request.PictureFormat.TheVariants.{Svg, Plain, Json}
 use Rattle.tn_picture.specs.declared.request.DrawRequest.{DrawRequest}
 use Rattle.tn_picture.specs.declared.request.DrawOutcome.{DrawOutcome}
 use Rattle.tn_picture.specs.declared.request.DrawOutcome.TheVariants.{Drawn, Refused}
@@ -19,6 +20,7 @@ use Rattle.tn_picture.specs.declared.request.DrawOutcome.TheVariants.{Drawn, Ref
 abbrev pub format_text : PictureFormat → Picture → List ℕ
 format_text Svg picture = svg_text picture
 format_text Plain picture = plain_text picture
+format_text Json picture = picture_json picture
 
 -- the text of the picture of a program's run by these picks
 abbrev pub picture_text : PictureFormat → Program → List ℕ → List ℕ

@@ -1,10 +1,12 @@
 //! The picture of a run: each event and command is a row, each process a column, each message of a session a mark.
 //!
-//! Depends on tn_trace, tn_run and def_picture. Promises that `picture_of` is the picture of the program's run,
-//! `svg_text` and `plain_text` are its texts, and `draw` writes exactly that text, or the line of the one refusal.
+//! Depends on tn_trace, tn_run, tn_formats, def_picture and the kit's `json`. Promises that `picture_of` is the picture
+//! of the program's run, `svg_text`, `plain_text` and `picture_json` are its texts, and `draw` writes exactly that
+//! text, or the line of the one refusal.
 #![tactic(auto)]
 
 mod job;
+mod json_picture;
 mod label;
 mod life;
 mod painter;
@@ -18,6 +20,7 @@ mod svg;
 mod templates;
 
 pub use job::{draw, picture_text};
+pub use json_picture::picture_json;
 pub use life::Life;
 pub use picture::{Picture, picture_of};
 pub use plain::plain_text;

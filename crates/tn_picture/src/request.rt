@@ -3,6 +3,7 @@ ghost use Rattle.std.specs.Prelude.{IfOk};
 ghost use Rattle.tn_picture.specs.Requests.{format_text};
 ghost use Rattle.tn_picture.specs.Views.{picture_seen};
 
+use crate::json_picture::picture_json;
 use crate::picture::Picture;
 use crate::plain::plain_text;
 use crate::svg::svg_text;
@@ -17,6 +18,8 @@ pub enum PictureFormat {
     Svg,
     /// Lines for a terminal.
     Plain,
+    /// JSON, a value a line.
+    Json,
 }
 
 /// What is drawn: a run by a schedule.
@@ -57,6 +60,7 @@ impl PictureFormat {
         match self {
             PictureFormat::Svg => svg_text(alloc, picture),
             PictureFormat::Plain => plain_text(alloc, picture),
+            PictureFormat::Json => picture_json(alloc, picture),
         }
     }
 }

@@ -28,6 +28,63 @@ pub enum Shape {
 
 impl Shape {
     ghost use Rattle.std.specs.Prelude.{◌≡◌};
+    ghost use Rattle.def_picture.specs.JsonPicture.{shape_depth, shape_process, shape_target, shape_word};
+    ghost use Rattle.tn_picture.specs.Views.{row_shape_seen};
+
+    /// Its word.
+    pub(crate) fn word(&self) -> &'static [u8]
+        ensures { result.now ≡ shape_word (row_shape_seen self.now) }
+    {
+        match self {
+            Shape::Arrow { .. } => b"arrow",
+            Shape::FrameStart { .. } => b"frame_start",
+            Shape::FrameEnd { .. } => b"frame_end",
+            Shape::Birth { .. } => b"birth",
+            Shape::Death { .. } => b"death",
+            Shape::Dot { .. } => b"dot",
+            Shape::CommandLine => b"command",
+        }
+    }
+
+    /// The process that moves; a command has none.
+    pub(crate) fn process(&self) -> Option<u32>
+        ensures { result ≡ shape_process (row_shape_seen self.now) }
+    {
+        match self {
+            Shape::Arrow { source, .. } => Some(*source),
+            Shape::FrameStart { pid, .. } => Some(*pid),
+            Shape::FrameEnd { pid, .. } => Some(*pid),
+            Shape::Birth { pid } => Some(*pid),
+            Shape::Death { pid } => Some(*pid),
+            Shape::Dot { pid } => Some(*pid),
+            Shape::CommandLine => None,
+        }
+    }
+
+    /// The process to which an arrow points.
+    pub(crate) fn target(&self) -> Option<u32>
+        ensures { result ≡ shape_target (row_shape_seen self.now) }
+    {
+        match self {
+            Shape::Arrow { target, .. } => Some(*target),
+            _ => None,
+        }
+    }
+
+    /// The depth of the frame that starts or ends.
+    pub(crate) fn depth(&self) -> Option<usize>
+        ensures { result ≡ shape_depth (row_shape_seen self.now) }
+    {
+        match self {
+            Shape::FrameStart { depth, .. } => Some(*depth),
+            Shape::FrameEnd { depth, .. } => Some(*depth),
+            _ => None,
+        }
+    }
+}
+
+impl Shape {
+    ghost use Rattle.std.specs.Prelude.{◌≡◌};
     ghost use Rattle.def_picture.specs.Picture.{is_birth, is_death, frame_depth};
     ghost use Rattle.tn_picture.specs.Views.{row_shape_seen};
 

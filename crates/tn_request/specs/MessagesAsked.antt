@@ -5,6 +5,7 @@ use Rattle.def_spec.specs.Matching.{Pattern}
 use Rattle.def_message_choice.specs.MessageChoices.{MessageChoice, sends, sends_none}
 use Rattle.tn_exploration.specs.Questions.{IsQuestionFault}
 use Rattle.tn_message_choice.specs.declared.choice.MessageChoice as code
+use Rattle.tn_message_choice.specs.declared.choice.MessageFilter.TheVariants.{Choice}
 use Rattle.tn_request.specs.declared.exploration.PatternsFault.{PatternsFault}
 use Rattle.tn_request.specs.declared.request.MessageArgs.{MessageArgs}
 use Rattle.tn_request.specs.declared.request.MessageRequest.{MessageRequest}
@@ -27,4 +28,4 @@ IsMessageFault words e = (e.option.now ≡ pattern_option words.is_missing) × I
 
 -- the run that is explained
 abbrev pub chosen_run : MessageRequest → code.MessageChoice → RunRequest
-chosen_run words choice = Explain words.script words.run words.filter (Some choice) words.expectation
+chosen_run words choice = Explain words.script words.run words.filter (Some (Choice choice)) words.expectation

@@ -9,7 +9,7 @@ use crate::exploration::PatternsFault;
 use crate::request::{MessageArgs, MessageRequest, RunRequest};
 use std::alloc::Global;
 use tn_exploration::pattern_of_text;
-use tn_message_choice::MessageChoice;
+use tn_message_choice::{MessageChoice, MessageFilter};
 use tn_message_pattern::MessagePattern;
 
 /// The option that has the pattern.
@@ -65,7 +65,7 @@ pub(crate) fn chosen_run<'a, 'w: 'a>(
         script: words.script,
         run: words.run,
         filter: words.filter,
-        message: Some(choice),
+        message: Some(MessageFilter::Choice(choice)),
         expectation: words.expectation,
     }
 }

@@ -5,7 +5,7 @@ use tn_answers::AnswerForm;
 use tn_command::Source;
 use tn_explain::Filter;
 use tn_exploration::RandomRuns;
-use tn_message_choice::MessageChoice;
+use tn_message_choice::MessageFilter;
 use tn_picture::PictureFormat;
 use tn_search::ListingOrder;
 use tn_spec::Dialect;
@@ -153,8 +153,8 @@ pub enum RunRequest<'a> {
         script: Source<'a>,
         run: RunSource<'a>,
         filter: Filter<'a>,
-        /// The message by which its moves are chosen, where one is asked for.
-        message: Option<MessageChoice<'a>>,
+        /// The message by which its moves are asked for, where one is.
+        message: Option<MessageFilter<'a>>,
         expectation: ExpectationArgs<'a>,
     },
     /// The state of a run after a move.

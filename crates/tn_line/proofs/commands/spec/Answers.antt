@@ -6,7 +6,7 @@ use Rattle.tn_line.proofs.commands.spec.Goals as goal
 pub returns : goal.returns
 returns c =
     let name = codes "spec" in
-    let bare : IsCommand name [] c.about.result = record { called = search rules; takes = search rules } in
+    let bare : IsCommand name [] c.about.result = record { called = search rules; takes = search (rules, c.about.ensures, c.after_help.ensures, c.new.ensures) } in
     let first = one_more name [] (codes "list") c.about.result c.in_ok-arg.field-0 c.list.result bare c.list.ensures.named.0 c.in_ok-arg.ensures in
     let second = one_more name _ (codes "for") c.in_ok-arg.field-0 c.in_ok-arg-2.field-0 c.event.result first c.event.ensures.named.0 c.in_ok-arg-2.ensures in
     let third = one_more name _ (codes "me") c.in_ok-arg-2.field-0 c.in_ok-arg-3.field-0 c.own_process.result second c.own_process.ensures.named.0
