@@ -28,7 +28,7 @@ _tracenode() {
     else
         case $before in
             --picks | --moves | --after | --limit | --max-states | --n | -n | --turns | --spread | --session | --move | --at | --list | --me | --caller) return ;;
-            --expect-session | --expect-line | --reject-line | --max-output) return ;;
+            --expect-session | --expect-line | --reject-line | --max-output | --max-memory) return ;;
             --shows | --always | --never | --sometimes | --message | --why-not) return ;;
             --for)
                 COMPREPLY=($(compgen -W 'call send receive' -- "$word"))
@@ -50,38 +50,38 @@ _tracenode() {
         case $command in
             run)
                 words='--limit -q --quiet --summary --json --expect-session'
-                words+=' --expect --expect-line --reject-line --strict --max-output -o --output -h --help'
+                words+=' --expect --expect-line --reject-line --strict --max-output --max-memory -o --output -h --help'
                 ;;
             replay)
                 words='--picks --picks-file --moves --moves-file -q --quiet --summary --json --expect-session'
-                words+=' --expect --expect-line --reject-line --strict --max-output -o --output -h --help'
+                words+=' --expect --expect-line --reject-line --strict --max-output --max-memory -o --output -h --help'
                 ;;
             round)
                 words='--limit --control -q --quiet --summary --json --expect-session'
-                words+=' --expect --expect-line --reject-line --strict --max-output -o --output -h --help'
+                words+=' --expect --expect-line --reject-line --strict --max-output --max-memory -o --output -h --help'
                 ;;
             workers)
                 words='-n --n --turns --spread -q --quiet --summary --json --expect-session'
-                words+=' --expect --expect-line --reject-line --strict --max-output -o --output -h --help'
+                words+=' --expect --expect-line --reject-line --strict --max-output --max-memory -o --output -h --help'
                 ;;
             explain)
                 words='--picks --picks-file --moves --moves-file --round --limit --control --session --move --node'
-                words+=' --message --why-not --json --expect --expect-line --reject-line --strict --max-output -o --output -h --help'
+                words+=' --message --why-not --json --expect --expect-line --reject-line --strict --max-output --max-memory -o --output -h --help'
                 ;;
             state)
                 words='--picks --picks-file --moves --moves-file --round --limit --control --at --session'
-                words+=' --json --expect --expect-line --reject-line --strict --max-output -o --output -h --help'
+                words+=' --json --expect --expect-line --reject-line --strict --max-output --max-memory -o --output -h --help'
                 ;;
             draw)
                 words='--picks --picks-file --moves --moves-file --round --limit --control --text'
-                words+=' --expect --expect-line --reject-line --strict --max-output -o --output -h --help'
+                words+=' --expect --expect-line --reject-line --strict --max-output --max-memory -o --output -h --help'
                 ;;
             spec) words='--list --for --me --caller --json --file --fun -h --help' ;;
             fun) words='--for --pretty -h --help' ;;
             explore) words='--after --control --order --session --summary --json --shows --always --never --sometimes'
-                words+=' --reduce --random --seed --max-states --max-output -o --output -h --help' ;;
+                words+=' --reduce --random --seed --max-states --max-output --max-memory -o --output -h --help' ;;
             compare) words='--trace --prefix --after --control --order --session --json'
-                words+=' --max-states --max-output -o --output -h --help' ;;
+                words+=' --max-states --max-output --max-memory -o --output -h --help' ;;
             serve) words='-h --help' ;;
             help) words='run replay round workers explain state draw spec fun explore compare serve' ;;
         esac

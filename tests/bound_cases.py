@@ -1,4 +1,4 @@
-"""Cases of outputs that are longer than they may be, and of runs that need more memory than the shell lets them have."""
+"""Cases of outputs that are longer than they may be, and of runs that need more memory than they may have."""
 import os
 import subprocess
 import tempfile
@@ -9,6 +9,7 @@ from harness import EMPTY, NO_FORMS, PROGRAM, SEND_HI, SEND_HI_OUTPUT, SEND_HI_P
 
 QUIET = [*SEND_HI_PICKS, "--quiet"]
 EXPLAIN = ["explain", "--picks", "0 0 100 100"]
+STATE = ["state", "--picks", "0 0 100 100", "--at", "4"]
 DRAW = ["draw", "--picks", "0 0 100 100"]
 
 # Command lines whose outputs are worked out by hand.
@@ -33,6 +34,9 @@ OTHERS = (
     [*EXPLAIN, "--json"],
     ["explain", "--moves", "0! 100*2"],
     ["explain", "--round"],
+    STATE,
+    [*STATE, "--json"],
+    ["state", "--round", "--at", "0"],
     DRAW,
     [*DRAW, "--text"],
     ["draw", "--moves", "0! 100*2"],
@@ -48,7 +52,7 @@ ENDED = (
     ["round", "--control", "first", "--quiet"],
 )
 
-COMMANDS = (SEND_HI_PICKS, ["round"], ["workers", "--n", "1"], EXPLAIN, DRAW)
+COMMANDS = (SEND_HI_PICKS, ["round"], ["workers", "--n", "1"], EXPLAIN, STATE, DRAW)
 
 
 def fault_of(length, most):
@@ -168,6 +172,45 @@ def little_memory():
     wants("a small output in little memory", run(QUIET, SEND_HI, command=limited), 0, SEND_HI_OUTPUT, b"")
     for words in (words, ["round"], ["explain", *moves], ["draw", *moves]):
         wants(f"{words[0]} in little memory", run(words, LARGE, command=limited), 3, b"", b"fault memory\n")
+
+
+def memory_bounds():
+    """A run that needs more memory than it may have is a fault, and nothing is written; in more memory it is as without."""
+    output = large_output()
+    moves = ["--moves", LARGE_MOVES]
+    replayed = ["replay", *moves, "--quiet"]
+    little, ample = ["--max-memory", "40000000"], ["--max-memory", "900000000"]
+    wants("a large output in 900 MB", run([*replayed, *ample], LARGE), 0, output, b"")
+    explored = ["explore", "--after", LARGE_MOVES, "--session", "s1"]
+    for words in (replayed, ["round"], ["explain", *moves], ["draw", *moves], [*replayed, "--strict"], explored):
+        wants(f"{words[0]} in 40 MB", run([*words, *little], LARGE), 3, b"", b"fault memory\n")
+    held = ["state", *moves, "--at", str(2 * len(SESSIONS) + SENDS + 1)]
+    wants("state in 2 MB", run([*held, "--max-memory", "2000000"], LARGE), 3, b"", b"fault memory\n")
+    for count in ("1", "4"):
+        ran = run(["workers", "--n", count, "--quiet", *little], LARGE)
+        told = ran.stderr in (b"fault memory\n", b"fault workers\n")
+        check(f"{count} workers in 40 MB", ran.returncode == 3 and not ran.stdout and told, ran)
+    known = [(words, run(words, SEND_HI).stdout) for words in OTHERS]
+    for words, output in (*KNOWN, *known):
+        name = " ".join(words)
+        for most in ("2000000", "18446744073709551615"):
+            wants(f"{name} in {most} bytes of memory", run([*words, "--max-memory", most], SEND_HI), 0, output, b"")
+        wants(f"{name} in a byte of memory", run([*words, "--max-memory", "1"], SEND_HI), 3, b"", b"fault memory\n")
+    for words in (["explore"], ["explore", "--json"], ["round", "--expect-line", "hi"]):
+        wants(f"{words} in a byte of memory", run([*words, "--max-memory", "1"], SEND_HI), 3, b"", b"fault memory\n")
+
+
+def bad_memory_bounds():
+    """Bounds of memory that are no numbers of 64 bits from 1 are refused as other bad numbers are."""
+    for words in (*COMMANDS, ["explore"]):
+        for text in ("0", "-1", "18446744073709551616", "ten", "1G", "1 0", "+5", ""):
+            ran = run([*words, "--max-memory", text], SEND_HI)
+            check(f"{words[0]} in {text!r} bytes of memory", ran.returncode == 2 and not ran.stdout and ran.stderr, ran)
+        for more in (["--max-memory"], ["--max-memory", "9", "--max-memory", "9"]):
+            ran = run([*words, *more], SEND_HI)
+            check(f"{words[0]} with {more}", ran.returncode == 2 and not ran.stdout and ran.stderr, ran)
+    ran = run(["spec", "--list", "[]", "--max-memory", "9", "[]"])
+    check("a test of a match specification with a bound of memory", ran.returncode == 2 and not ran.stdout and ran.stderr, ran)
 
 
 def folder_holds(name, folder, files):

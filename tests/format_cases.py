@@ -32,6 +32,18 @@ commands: 2
 moves: 4
 """
 
+SEND_HI_LOADS = b"""{"session":"s1","tracer":"t1","kind":"send","messages":1,"bytes":39}
+{"session":"s1","tracer":"t1","messages":1,"bytes":39}
+{"session":"s1","tracer":"t1","greatest":1,"bytes":39,"text":"{trace,<0.100.0>,send,{hi,1},<0.101.0>}"}
+{"commands":2}
+{"moves":4}
+"""
+
+NO_LOADS = b"""{"session":"s1","tracer":"t1","messages":0,"bytes":0}
+{"commands":1}
+{"moves":1}
+"""
+
 SEND_HI_JSON = b"""{"session":"s1","tracer":"t1","messages":1}
 {"session":"s1","tracer":"t1","message":1,"kind":"send","pid":"<0.100.0>","text":"{trace,<0.100.0>,send,{hi,1},<0.101.0>}"}
 {"reply":1,"text":"{session,s1}"}
@@ -61,6 +73,12 @@ NO_OBJECTS = (
     '{"session":"s1","tracer":"t1","messages":1,"more":1}',
     '{"session":"s1","tracer":"t1","message":1,"kind":"sends","pid":"<0.100.0>","text":""}',
     '{"session":"s1","tracer":"t1","message":1,"kind":"send","pid":"100","text":""}',
+    '{"session":"s1","tracer":"t1","kind":"send","messages":0,"bytes":0}',
+    '{"session":"s1","tracer":"t1","kind":"sends","messages":1,"bytes":39}',
+    '{"session":"s1","tracer":"t1","messages":1,"bytes":-1}',
+    '{"session":"s1","tracer":"t1","greatest":0,"bytes":0,"text":""}',
+    '{"commands":-1}',
+    '{"commands":2,"moves":4}',
     '{"reply":0,"text":"1"}',
     '{"reply":true,"text":"1"}',
     '{"journal":[-1]}',
@@ -105,6 +123,28 @@ def summary(output):
                 at = sizes.index(max(sizes))
                 told.append(f"greatest: bytes {sizes[at]}, line {at + 1}, {lines[at]}")
     return "".join(f"{line}\n" for line in told).encode()
+
+
+def loads(output):
+    """The values of JSON that the summary of an output of bare names is, as the manual says."""
+    found = []
+    for head, lines in sections(output):
+        if head == "== replies":
+            found.append({"commands": len(lines)})
+        elif head == "== journal":
+            found.append({"moves": len(lines[0].split())})
+        else:
+            _, _, name, _, tracer = head.split()
+            session = {"session": name, "tracer": tracer}
+            sizes = [len(line) for line in lines]
+            for kind in KINDS:
+                own = [len(line) for line in lines if line.split(",")[2] == kind]
+                found += [{**session, "kind": kind, "messages": len(own), "bytes": sum(own)}] if own else []
+            found.append({**session, "messages": len(lines), "bytes": sum(sizes)})
+            if lines:
+                at = sizes.index(max(sizes))
+                found.append({**session, "greatest": at + 1, "bytes": sizes[at], "text": lines[at]})
+    return found
 
 
 def values(output):
@@ -186,7 +226,8 @@ def schema():
     for path in sorted(EXAMPLES.glob("*.term")):
         script = path.read_bytes()
         picks = run(["round", "--quiet"], script).stdout.decode().splitlines()[-1]
-        lines += [(["round", "--quiet", "--json"], script), (["explain", "--picks", picks, "--json"], script)]
+        lines += [(["round", "--quiet", "--json"], script), (["round", "--quiet", "--summary", "--json"], script)]
+        lines += [(["explain", "--picks", picks, "--json"], script)]
         lines += [(["state", "--picks", picks, "--at", "0", "--json"], script)]
     for words, script in lines:
         ran = run(words, script)
@@ -199,6 +240,9 @@ def formats():
     """Summaries and JSON: of worked runs, of all examples, and of what is refused."""
     wants("the summary of a send", run([*SEND_HI_PICKS, "--summary"], SEND_HI), 0, SEND_HI_SUMMARY)
     wants("a summary without messages", run(["replay", "--picks", "0", "--summary"], SEND_HI), 0, NO_MESSAGE)
+    wants("the summary of a send as JSON", run([*SEND_HI_PICKS, "--summary", "--json"], SEND_HI), 0, SEND_HI_LOADS)
+    ran = run(["replay", "--picks", "0", "--json", "--summary"], SEND_HI)
+    wants("a summary without messages as JSON", ran, 0, NO_LOADS)
     wants("the JSON of a send", run([*SEND_HI_PICKS, "--json"], SEND_HI), 0, SEND_HI_JSON)
     wants("the JSON of no run", run(["round", "--json"]), 0, b'{"journal":[]}\n', NO_FORMS)
     ran = run(["replay", "--picks", "0 0 0 100 100", "--json"], QUOTED)
@@ -215,7 +259,7 @@ def formats():
     for flag in ("--summary", "--json"):
         wants(f"a refused script with {flag}", run(["round", flag], b"{"), 2, b"refused 2 token at 1\n")
         wants(f"refused picks with {flag}", run(["replay", "--picks", "x", flag], SEND_HI), 2, b"refused 20 bad picks\n")
-    for words in ([*SEND_HI_PICKS, "--summary", "--json"], ["explain", "--picks", "0", "--summary"], [*trial, "--summary"]):
+    for words in (["explain", "--picks", "0", "--summary"], [*trial, "--summary"]):
         ran = run(words, SEND_HI)
         check(f"{' '.join(words)} is refused", ran.returncode == 2 and not ran.stdout and ran.stderr, ran)
     ran = run([*SEND_HI_PICKS, "--summary", "--expect-line", "moves: 4"], SEND_HI)
@@ -230,6 +274,8 @@ def of_examples():
         script = path.read_bytes()
         plain = run(["round", "--quiet"], script)
         wants(f"the summary of {path.name}", run(["round", "--quiet", "--summary"], script), 0, summary(plain.stdout))
+        ran = run(["round", "--quiet", "--summary", "--json"], script)
+        holds(f"the summary of {path.name} as JSON", ran, loads(plain.stdout))
         holds(f"the JSON of {path.name}", run(["round", "--quiet", "--json"], script), values(plain.stdout))
         picks = plain.stdout.decode().splitlines()[-1]
         told = run(["explain", "--picks", picks], script)

@@ -117,6 +117,8 @@ SUBJECTS = {
         bound_cases.output_files,
         bound_cases.refusals_in_bounds,
         bound_cases.bad_bounds,
+        bound_cases.memory_bounds,
+        bound_cases.bad_memory_bounds,
         bound_cases.endless_outputs,
         bound_cases.little_memory,
     ),

@@ -4,4 +4,5 @@ mod OutputSections
 mod AtomTexts
 mod Longest
 mod ReadRows
+mod LoadRows
 mod MessageTexts

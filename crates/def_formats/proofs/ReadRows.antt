@@ -17,14 +17,14 @@ use Rattle.def_formats.specs.RefusalRows.{refusal_number, noted_place, place_val
 use Rattle.def_formats.specs.Laws.{IsReadBack, OutputRowsAreRead, AccountRowsAreRead, TextRowsAreRead, RefusalRowIsRead}
 
 -- a value that can be written, and nests so deep at most
-record IsShallow (k : ℕ) (v : Json) : Type 0 where
-  numbers : HasNumbers v
-  deep : depth v ≤ k
+pub record IsShallow (k : ℕ) (v : Json) : Type 0 where
+  pub numbers : HasNumbers v
+  pub deep : depth v ≤ k
 
 read_so : (k : ℕ) (v : Json) → k ≤ 128 → IsShallow k v → IsReadBack v
 read_so k v small h = document-print v h.numbers (omega (arith, small, h.deep))
 
-text_leaf : (text : List ℕ) → IsShallow 0 (text_value text)
+pub text_leaf : (text : List ℕ) → IsShallow 0 (text_value text)
 text_leaf text = by_form (are_ascii text)
   where
     by_form : (b : Bool) → IsShallow 0 (if b then string text else null)
@@ -43,11 +43,11 @@ numeral_leaf text = by_form (are_ascii text && is_whole (after_number text)) ref
     by_form true e = record { numbers = whole_number (after_number text) (and_parts (are_ascii text) (is_whole (after_number text)) e).1; deep = omega arith }
     by_form false e = text_leaf text
 
-number_leaf : (n : ℕ) → n < 2 ^ 64 → IsShallow 0 (number_value n)
+pub number_leaf : (n : ℕ) → n < 2 ^ 64 → IsShallow 0 (number_value n)
 number_leaf n small = record { numbers = IsNumber-decimal n small; deep = omega arith }
 
 -- each member's value
-abbrev AreShallow : ℕ → Members → Type 0
+abbrev pub AreShallow : ℕ → Members → Type 0
 AreShallow k no_members = Unit {0}
 AreShallow k (member name v ms) = IsShallow k v × AreShallow k ms
 
@@ -56,7 +56,7 @@ object_so : (k : ℕ) (ms : Members) → AreShallow k ms → MembersHaveNumbers 
 object_so k no_members h = (tt, omega arith)
 object_so k (member name v ms) h = let rest = object_so k ms h.1 in ((h.0.numbers, rest.0), omega (arith, h.0.deep, rest.1))
 
-object_read : (k : ℕ) (ms : Members) → k < 128 → AreShallow k ms → IsReadBack (object ms)
+pub object_read : (k : ℕ) (ms : Members) → k < 128 → AreShallow k ms → IsReadBack (object ms)
 object_read k ms small h = let parts = object_so k ms h in read_so (suc k) (object ms) (omega (arith, small)) (record { numbers = parts.0; deep = omega (arith, parts.1) })
 
 -- ---- the members of a line that explains

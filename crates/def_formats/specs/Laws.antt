@@ -1,6 +1,6 @@
 -- What is promised of the formats (own).
 -- Depends on the output of an accepted script, on the texts of atoms and on the JSON of RFC 8259, by the kit's `json`.
-use Rattle.std.specs.Prelude.{◌≡◌, ◌==◌, ◌<◌, ◌≤◌, ◌-◌, ◌+◌, ◌^◌, ◌⊎◌, ℕ, true, false, not, List, [], ◌∷◌, ◌++◌, All, length, map, flat_map, slice_get, Some, codes}
+use Rattle.std.specs.Prelude.{◌≡◌, ◌==◌, ◌<◌, ◌≤◌, ◌-◌, ◌+◌, ◌^◌, ◌⊎◌, ℕ, true, false, not, List, [], ◌∷◌, ◌++◌, All, length, map, flat_map, sum, slice_get, Some, codes}
 use Rattle.std.specs.List.{list_all}
 use Rattle.json.specs.Json.{Json, document}
 use Rattle.json.specs.Print.{print}
@@ -18,6 +18,7 @@ use Rattle.def_formats.specs.Sections.{is_section_head, by_sections, Section, se
 use Rattle.def_formats.specs.Summaries.{NumberedLine, longest, kinds_of_signals, kinds_of_calls, kinds_of_processes, kinds_of_links}
 use Rattle.def_formats.specs.JsonRows.{rows_by, account_rows, numbered_rows, line_row}
 use Rattle.def_formats.specs.RefusalRows.{refusal_row}
+use Rattle.def_formats.specs.LoadRows.{load_rows_by}
 
 -- ---- names
 
@@ -96,6 +97,10 @@ IsReadBack v = document (print (json_tokens v)) ≡ Some v
 -- each row of an output with fewer than 2^64 lines is
 abbrev pub OutputRowsAreRead : Type 0
 OutputRowsAreRead = (s : Section) (lines : List (List ℕ)) → length lines + 1 < 2 ^ 64 → All IsReadBack (rows_by s lines)
+
+-- and each row of its summary, where its lines have fewer than 2^64 bytes too
+abbrev pub LoadRowsAreRead : Type 0
+LoadRowsAreRead = (s : Section) (lines : List (List ℕ)) → length lines + sum (map length lines) + 1 < 2 ^ 64 → All IsReadBack (load_rows_by s lines)
 
 -- and each row of an account
 abbrev pub AccountRowsAreRead : Type 0

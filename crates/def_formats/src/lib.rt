@@ -9,7 +9,8 @@
 
 ghost use Rattle.def_formats.specs.Laws.{SectionsAreOfTheRun, SessionHeadIsRead, AtomIsCut};
 ghost use Rattle.def_formats.specs.Laws.{MessageIsRead, KindsHaveNoComma, LongestIsLongest};
-ghost use Rattle.def_formats.specs.Laws.{OutputRowsAreRead, AccountRowsAreRead, TextRowsAreRead, RefusalRowIsRead};
+ghost use Rattle.def_formats.specs.Laws.{OutputRowsAreRead, LoadRowsAreRead, AccountRowsAreRead, TextRowsAreRead};
+ghost use Rattle.def_formats.specs.Laws.{RefusalRowIsRead};
 
 /// What is made of the sections of a run's output is made of the messages of its sessions, its replies and its moves,
 /// where no text of it has a line feed or begins a section.
@@ -38,6 +39,7 @@ pub fn the_greatest_message_is_as_long_as_any()
 /// Each row of JSON is one JSON text, which is read as the value that the row is defined as.
 pub fn a_row_is_one_json_text()
     ensures output { OutputRowsAreRead }
+    ensures load { LoadRowsAreRead }
     ensures account { AccountRowsAreRead }
     ensures text { TextRowsAreRead }
     ensures refusal { RefusalRowIsRead }

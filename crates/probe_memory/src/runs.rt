@@ -86,6 +86,7 @@ fn outcome_by_workers<R: Print + Threads + Wait + Sync, W: Write + Drop>(
     let workers = Workers {
         count: 1,
         turns: TURNS,
+        memory: u64::MAX,
         gate: &Open,
     };
     let ran = run_live(rt, inputs.alloc, &mut reader, &mut writer, &workers);

@@ -1,11 +1,11 @@
 -- In which format the command line asks for an output (own).
 -- Depends on what `clap` found in the words.
-use Rattle.std.specs.Prelude.{◌≡◌, ℕ, List, Option, Some, None, MatchOption, option_map, if◌then◌else◌, codes}
+use Rattle.std.specs.Prelude.{◌≡◌, ℕ, Bool, List, Option, Some, None, MatchOption, option_map, if◌then◌else◌, codes}
 use Rattle.std.specs.Str.{bytes_eq}
 use Rattle.clap.specs.declared.parser.matches.ArgMatches.{ArgMatches}
 use Rattle.clap.specs.Words.{found_of, rows_of, subcommand_name_of, subcommand_rows_of}
 use Rattle.tn_formats.specs.declared.format.Format.{Format}
-use Rattle.tn_formats.specs.declared.format.Format.TheVariants.{Summary, OutputJson, AccountJson, TextJson}
+use Rattle.tn_formats.specs.declared.format.Format.TheVariants.{Summary, SummaryJson, OutputJson, AccountJson, TextJson}
 use Rattle.tn_cli.specs.Requests.{is_given}
 
 -- the JSON of a command: of the account that `explain` writes, of the lines of `spec` and of `state`, and of the output of any other
@@ -16,10 +16,14 @@ json_named name =
     else if bytes_eq name (codes "state") then TextJson
     else OutputJson
 
--- the summary where `--summary` is given, else the JSON where `--json` is
+-- the summary, as JSON or as lines
+abbrev pub summary_named : (is_json : Bool) → Format
+summary_named is_json = if is_json then SummaryJson else Summary
+
+-- the summary where `--summary` is given, as JSON where `--json` is too; else the JSON where `--json` is
 abbrev pub format_named : List ℕ → ArgMatches → Option Format
 format_named name m =
-    if is_given m (codes "summary") then Some Summary
+    if is_given m (codes "summary") then Some (summary_named (is_given m (codes "json")))
     else if is_given m (codes "json") then Some (json_named name)
     else None
 

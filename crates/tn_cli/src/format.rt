@@ -1,6 +1,6 @@
 // In which format the output is.
 ghost use Rattle.std.specs.Prelude.{◌≡◌};
-ghost use Rattle.tn_cli.specs.Formats.{IsFormatOf, format_named, json_named};
+ghost use Rattle.tn_cli.specs.Formats.{IsFormatOf, format_named, json_named, summary_named};
 ghost use Rattle.tn_cli.specs.Requests.{is_given};
 
 use crate::request::flag;
@@ -19,12 +19,23 @@ fn json_of(name: &str) -> Format
     }
 }
 
+/// The format of a summary, which `--json` asks for as JSON.
+fn summary_as(is_json: bool) -> Format
+    ensures { result ≡ summary_named is_json }
+{
+    if is_json {
+        Format::SummaryJson
+    } else {
+        Format::Summary
+    }
+}
+
 /// The format that a command of this name is asked for.
 fn named_format(name: &str, given: &ArgMatches<'_>) -> Option<Format>
     ensures { result ≡ format_named name.now given.now }
 {
     if flag(given, "summary") {
-        return Some(Format::Summary);
+        return Some(summary_as(flag(given, "json")));
     }
     if flag(given, "json") {
         return Some(json_of(name));

@@ -5,11 +5,13 @@
 //! an exploration that isn't complete.
 #![tactic(auto)]
 
-ghost use Rattle.std.specs.Prelude.{IfErr};
+ghost use Rattle.std.specs.Prelude.{IfErr, IfOk};
 ghost use Rattle.std.specs.Process.{exit_status};
 ghost use Rattle.tn_command.specs.Explorations.{IsExplorationStatus};
+ghost use Rattle.tn_cli.specs.Bounds.{IsBoundOf, IsMemoryOf};
 
 mod format;
+mod memory_bound;
 mod output_bound;
 mod output_file;
 mod request;
@@ -20,6 +22,7 @@ mod value;
 use clap::ArgMatches;
 use clap::error::ErrorKind;
 use format::format_of;
+use memory_bound::memory_of;
 use output_bound::most_of;
 use output_file::run_into_file;
 use request::request_of;
@@ -31,7 +34,8 @@ use std::rt::{Env, Files};
 use std::sync::Wait;
 use std::thread::Threads;
 use tn_command::{
-    FAULT, LastError, OutputForm, REFUSED, arguments, picks_of, refuse_value, report, run_fault,
+    BadValue, FAULT, LastError, OutputForm, REFUSED, arguments, picks_of, refuse_value, report,
+    run_fault,
 };
 use tn_line::command;
 use tn_notice::{CommandFault, Notice, escape_controls, print_fault, print_notice};
@@ -83,6 +87,18 @@ fn run_request<R: Input + Files + Print + Eprint + AllocGlobal, T: Threads + Wai
     answer_request(rt, threads, request, &text, form, &expectation)
 }
 
+/// In which form the output is, and what its run may take, that the words ask for.
+fn form_of<'a>(matches: &ArgMatches<'a>) -> Result<OutputForm, BadValue<'a>>
+    ensures most { IfOk result (λ form. IsBoundOf matches.now form.most) }
+    ensures memory { IfOk result (λ form. IsMemoryOf matches.now form.memory) }
+{
+    Ok(OutputForm {
+        format: format_of(matches),
+        most: most_of(matches)?,
+        memory: memory_of(matches)?,
+    })
+}
+
 /// Does what was read of the words.
 fn run_command<R: Input + Files + Print + Eprint + AllocGlobal, T: Threads + Wait + Sync>(
     rt: &R,
@@ -91,11 +107,8 @@ fn run_command<R: Input + Files + Print + Eprint + AllocGlobal, T: Threads + Wai
 ) -> ExitCode
     ensures { IsExplorationStatus (exit_status result) }
 {
-    let form = match most_of(matches) {
-        Ok(most) => OutputForm {
-            format: format_of(matches),
-            most,
-        },
+    let form = match form_of(matches) {
+        Ok(form) => form,
         Err(bad) => return refuse_value(rt, bad),
     };
     match request_of(matches) {

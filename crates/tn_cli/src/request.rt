@@ -26,7 +26,7 @@ use tn_spec::Dialect;
 use tn_state::StateQuestion;
 
 /// A text that is no number for an option.
-fn not_number<'a>(option: &'static str, text: &'a str) -> BadValue<'a>
+pub(crate) fn not_number<'a>(option: &'static str, text: &'a str) -> BadValue<'a>
     ensures { (result.option ≡ option.entry) × (result.text ≡ text.entry) }
 {
     BadValue {

@@ -34,6 +34,15 @@ fn argument_text(alloc: Global, text: &str) -> Result<String, AllocError> {
     without_advice(alloc, text)
 }
 
+/// Which number is the greatest of the option that a text refuses a number of.
+fn greatest(text: &str) -> &'static str {
+    if text.contains("' for '--max-memory <BYTES>'") {
+        "the greatest number is 18446744073709551615"
+    } else {
+        "the greatest number is 4294967295"
+    }
+}
+
 /// Why a number is refused.
 fn number_text(alloc: Global, text: &str) -> Result<String, AllocError> {
     let expected = "a decimal number is expected";
@@ -42,7 +51,7 @@ fn number_text(alloc: Global, text: &str) -> Result<String, AllocError> {
     text.replace(
         alloc,
         "number too large to fit in target type",
-        "the greatest number is 4294967295",
+        greatest(&text),
     )
 }
 

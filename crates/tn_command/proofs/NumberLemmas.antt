@@ -5,7 +5,6 @@ use Rattle.std.specs.Result.{result_ok}
 use Rattle.std.specs.Char.{digit_value}
 use Rattle.std.specs.Str.Parse.{IsNumeral, digits_value, without_leading_plus}
 use Rattle.std.proofs.lemmas.Bool.Decides.{Decides-eqb}
-use Rattle.tn_command.specs.Numbers.{IsPlainNumber}
 
 -- a plus sign is no digit
 plus-first : (c : ℕ) → (c == 43) ≡ true → digit_value c < 10 → ⊥
@@ -14,18 +13,22 @@ plus-first c e digit =
     let bad : 36 < 10 = subst (λ x. digit_value x < 10) same digit in
     absurd (omega arith)
 
-pub no_number : (text : List ℕ) → (slice_index text 0 == 43) ≡ true → IsPlainNumber text → ⊥
-no_number [] e plain = absurd (omega (arith, plain.0.0))
-no_number (c ∷ cs) e plain = plus-first c e plain.0.1.0
+pub no_number : (most : ℕ) (text : List ℕ) → (slice_index text 0 == 43) ≡ true → IsNumeral 10 text × (digits_value 10 text < most) → ⊥
+no_number most [] e plain = absurd (omega (arith, plain.0.0))
+no_number most (c ∷ cs) e plain = plus-first c e plain.0.1.0
 
 no-plus : (text : List ℕ) → (slice_index text 0 == 43) ≡ false → without_leading_plus text ≡ text
 no-plus text e = ap (λ b. drop (cond b 1 0) text) e
 
-by-digits : {E : Type 0} (text : List ℕ) (r : Result ℕ E) → OkIff r (IsPlainNumber text) (digits_value 10 text) → SomeIff (result_ok r) (IsPlainNumber text) (digits_value 10 text)
-by-digits text (Ok n) h = h
-by-digits text (Err e) h = h
+-- the text is a number below a bound
+abbrev IsBelow : ℕ → List ℕ → Type 0
+IsBelow most text = IsNumeral 10 text × (digits_value 10 text < most)
 
-pub plain : {E : Type 0} (text : List ℕ) (r : Result ℕ E) → (slice_index text 0 == 43) ≡ false
-    → OkIff r (IsNumeral 10 (without_leading_plus text) × (digits_value 10 (without_leading_plus text) < 2 ^ 32)) (digits_value 10 (without_leading_plus text))
-    → SomeIff (result_ok r) (IsPlainNumber text) (digits_value 10 text)
-plain text r e h = by-digits text r (subst (λ ds. OkIff r (IsNumeral 10 ds × (digits_value 10 ds < 2 ^ 32)) (digits_value 10 ds)) (no-plus text e) h)
+by-digits : {E : Type 0} (most : ℕ) (text : List ℕ) (r : Result ℕ E) → OkIff r (IsBelow most text) (digits_value 10 text) → SomeIff (result_ok r) (IsBelow most text) (digits_value 10 text)
+by-digits most text (Ok n) h = h
+by-digits most text (Err e) h = h
+
+pub plain : {E : Type 0} (most : ℕ) (text : List ℕ) (r : Result ℕ E) → (slice_index text 0 == 43) ≡ false
+    → OkIff r (IsBelow most (without_leading_plus text)) (digits_value 10 (without_leading_plus text))
+    → SomeIff (result_ok r) (IsBelow most text) (digits_value 10 text)
+plain most text r e h = by-digits most text r (subst (λ ds. OkIff r (IsBelow most ds) (digits_value 10 ds)) (no-plus text e) h)

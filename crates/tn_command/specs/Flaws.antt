@@ -95,7 +95,7 @@ abbrev pub IsEndFlaw : {O F : Type 0} → (O → List ℕ → Bool → Type 0) �
 IsEndFlaw flaw end bytes flawed = IsAnswerFlaw flaw end.answer bytes flawed
 
 -- the bytes that were read of a script
-abbrev pub script_bytes : {S : Type 0} → NamedScript S → List ℕ
+abbrev pub script_bytes : {S A : Type 0} → NamedScript S A → List ℕ
 script_bytes script = tee_text (last_error_inner (watched_inner script.reader))
 
 -- the bytes that a writer kept

@@ -13,7 +13,7 @@ use Rattle.tn_expectation.specs.declared.expectation.Expectation.{Expectation}
 use Rattle.tn_command.specs.declared.jobs.NamedScript.{NamedScript}
 
 -- the reader of a script, below what keeps its text and its errors
-abbrev pub script_inner : {S : Type 0} → NamedScript S → S
+abbrev pub script_inner : {S A : Type 0} → NamedScript S A → S
 script_inner script = tee_inner (last_error_inner (watched_inner script.reader))
 
 -- each output is what is expected

@@ -8,7 +8,7 @@ use crate::moves_line::tell_run_refusal;
 use crate::remarks::{forms_notice, print_notices, tell_schedule_picks, tell_schedule_remarks};
 use crate::run_outline::{RunOutline, move_count, names_text, sessions_of};
 use crate::stderr::{NamedText, node_notice, run_fault};
-use std::alloc::Global;
+use std::alloc::Allocator;
 use tn_explain::{ExplainOutcome, ExplainRequest};
 use tn_moves::Schedule;
 use tn_notice::{CommandFault, NodeCommand, Notice, escape_controls, plain_name, print_notice};
@@ -16,7 +16,7 @@ use tn_replay::{Replay, ReplayOutcome, has_no_forms, schedule_has_remarks, text_
 use tn_run::{Denial, Job, RunFault};
 
 /// A job that a command does.
-pub trait Command: Job<Global> {
+pub trait Command<A: Allocator + Copy>: Job<A> {
     ghost use Rattle.std.specs.Prelude.{◌≡◌, ℕ, Bool, List, IfOk};
     ghost use Rattle.def_notice.specs.FaultTexts.{FaultSaid};
     ghost use Rattle.tn_notice.specs.FaultViews.{command_fault_seen};
@@ -48,7 +48,7 @@ pub trait Command: Job<Global> {
     /// Refused memory; or the denial of the script, whose outcome this isn't then.
     fn is_flawed(
         &self,
-        alloc: Global,
+        alloc: A,
         outcome: &Self::Outcome,
         script: NamedText<'_>,
     ) -> Result<bool, Denial>
@@ -56,7 +56,11 @@ pub trait Command: Job<Global> {
 }
 
 /// Whether a script has no forms, or a command of its run by these picks is refused, matches no function or has a trap.
-pub(crate) fn has_flaw(alloc: Global, script: NamedText<'_>, picks: &[u32]) -> Result<bool, Denial>
+pub(crate) fn has_flaw<A: Allocator + Copy>(
+    alloc: A,
+    script: NamedText<'_>,
+    picks: &[u32],
+) -> Result<bool, Denial>
     ensures { IfOk result (IsFlawBy picks.now script.entry.bytes.now) }
 {
     let has_remarks = text_has_remarks(alloc, script.bytes, picks)?;
@@ -64,8 +68,8 @@ pub(crate) fn has_flaw(alloc: Global, script: NamedText<'_>, picks: &[u32]) -> R
 }
 
 /// The same of its run by a schedule.
-pub(crate) fn has_schedule_flaw(
-    alloc: Global,
+pub(crate) fn has_schedule_flaw<A: Allocator + Copy>(
+    alloc: A,
     script: NamedText<'_>,
     schedule: &Schedule<'_>,
 ) -> Result<bool, Denial>
@@ -140,7 +144,7 @@ fn tell_no_account<R: Eprint + AllocGlobal>(
     print_notices(rt, account_notice(outcome, name, number, known));
 }
 
-impl Command for Replay<'_> {
+impl<A: Allocator + Copy> Command<A> for Replay<'_> {
     ghost use Rattle.tn_command.specs.Flaws.{IsReplayFlaw};
     ghost use Rattle.tn_command.specs.Notices.{run_fault_said};
 
@@ -179,7 +183,7 @@ impl Command for Replay<'_> {
 
     fn is_flawed(
         &self,
-        alloc: Global,
+        alloc: A,
         outcome: &ReplayOutcome,
         script: NamedText<'_>,
     ) -> Result<bool, Denial> {
@@ -193,7 +197,7 @@ impl Command for Replay<'_> {
     }
 }
 
-impl Command for ExplainRequest<'_> {
+impl<A: Allocator + Copy> Command<A> for ExplainRequest<'_> {
     ghost use Rattle.tn_command.specs.Flaws.{IsExplainedFlaw};
     ghost use Rattle.tn_command.specs.Notices.{run_fault_said};
 
@@ -222,7 +226,7 @@ impl Command for ExplainRequest<'_> {
 
     fn is_flawed(
         &self,
-        alloc: Global,
+        alloc: A,
         outcome: &ExplainOutcome,
         script: NamedText<'_>,
     ) -> Result<bool, Denial> {

@@ -2,12 +2,12 @@
 use crate::command::{Command, has_schedule_flaw, schedule_text};
 use crate::moves_line::tell_run_refusal;
 use crate::stderr::{NamedText, run_fault};
-use std::alloc::Global;
+use std::alloc::Allocator;
 use tn_notice::CommandFault;
 use tn_picture::{DrawOutcome, DrawRequest};
 use tn_run::{Denial, RunFault};
 
-impl Command for DrawRequest<'_> {
+impl<A: Allocator + Copy> Command<A> for DrawRequest<'_> {
     ghost use Rattle.tn_command.specs.Flaws.{IsDrawnFlaw};
     ghost use Rattle.tn_command.specs.Notices.{run_fault_said};
 
@@ -35,7 +35,7 @@ impl Command for DrawRequest<'_> {
 
     fn is_flawed(
         &self,
-        alloc: Global,
+        alloc: A,
         outcome: &DrawOutcome,
         script: NamedText<'_>,
     ) -> Result<bool, Denial> {

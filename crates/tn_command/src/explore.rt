@@ -16,7 +16,7 @@ use crate::source::{Source, open};
 use crate::status::UNMET;
 use crate::stderr::{NamedText, run_fault};
 use crate::within_bytes::WithinBytes;
-use std::alloc::Global;
+use std::alloc::Allocator;
 use std::io;
 use std::io::{Read, Write};
 use std::process::ExitCode;
@@ -29,7 +29,7 @@ use tn_text::Watched;
 /// The status of an exploration that didn't try all states.
 pub const INCOMPLETE: u8 = 4;
 
-impl Command for ExploreRequest<'_> {
+impl<A: Allocator + Copy> Command<A> for ExploreRequest<'_> {
     ghost use Rattle.tn_command.specs.Flaws.{IsNoFlaw};
     ghost use Rattle.tn_command.specs.Notices.{run_fault_said};
 
@@ -66,7 +66,7 @@ impl Command for ExploreRequest<'_> {
 
     fn is_flawed(
         &self,
-        _alloc: Global,
+        _alloc: A,
         _outcome: &ExploreOutcome,
         _script: NamedText<'_>,
     ) -> Result<bool, Denial> {
@@ -99,8 +99,14 @@ fn status_after_search(status: ExitCode, search: Option<u8>) -> ExitCode
 /// gained what the job writes, where that has at most so many bytes, or a front of it where a write failed. The
 /// status is that of the answer, 1 where what is demanded of a pattern is refuted, or 4 where not all states were
 /// tried.
-pub fn print_exploration_over<R: Eprint + AllocGlobal, S: Read + Drop, W: Write + Drop>(
+pub fn print_exploration_over<
+    R: Eprint + AllocGlobal,
+    A: Allocator + Copy,
+    S: Read + Drop,
+    W: Write + Drop,
+>(
     rt: &R,
+    alloc: A,
     request: &ExploreRequest<'_>,
     most: usize,
     streams: Streams<'_, S, W>,
@@ -115,9 +121,9 @@ pub fn print_exploration_over<R: Eprint + AllocGlobal, S: Read + Drop, W: Write 
         reader,
         writer,
     } = streams;
-    let mut script = script_of(rt.alloc(), name, reader);
+    let mut script = script_of(alloc, name, reader);
     let mut writer = Watched::of(LastError::of(writer));
-    let end = perform_over(rt.alloc(), job, &mut script.reader, &mut writer);
+    let end = perform_over(alloc, job, &mut script.reader, &mut writer);
     let search = search_status(&end.answer);
     let (writer, unwritten) = writer.into_inner().into_parts();
     let status = print_end(rt, job, end, script, unwritten, false);
@@ -125,28 +131,30 @@ pub fn print_exploration_over<R: Eprint + AllocGlobal, S: Read + Drop, W: Write 
 }
 
 /// Does so with a script of this name, and writes to standard output.
-fn print_exploration<R: Print + Eprint + AllocGlobal, S: Read + Drop>(
+fn print_exploration<R: Print + Eprint + AllocGlobal, A: Allocator + Copy, S: Read + Drop>(
     rt: &R,
+    alloc: A,
     request: &ExploreRequest<'_>,
     most: usize,
-    name: &str,
-    reader: S,
+    script: (&str, S),
 ) -> ExitCode
     ensures { IsExplorationStatus (exit_status result) }
 {
+    let (name, reader) = script;
     let writer = io::writer(rt);
     let streams = Streams {
         name,
         reader,
         writer,
     };
-    let (status, _) = print_exploration_over(rt, request, most, streams);
+    let (status, _) = print_exploration_over(rt, alloc, request, most, streams);
     status
 }
 
-/// Explores all schedules of the script of a source, and writes to standard output.
-pub fn explore_script<R: Input + Files + Print + Eprint + AllocGlobal>(
+/// Explores all schedules of the script of a source in an allocator, and writes to standard output.
+pub fn explore_script<R: Input + Files + Print + Eprint + AllocGlobal, A: Allocator + Copy>(
     rt: &R,
+    alloc: A,
     script: Source<'_>,
     request: &ExploreRequest<'_>,
     most: usize,
@@ -154,9 +162,9 @@ pub fn explore_script<R: Input + Files + Print + Eprint + AllocGlobal>(
     ensures { IsExplorationStatus (exit_status result) }
 {
     match script {
-        Source::Input => print_exploration(rt, request, most, INPUT, rt.reader()),
+        Source::Input => print_exploration(rt, alloc, request, most, (INPUT, rt.reader())),
         Source::File(path) => match open(rt, path) {
-            Ok(file) => print_exploration(rt, request, most, path, file),
+            Ok(file) => print_exploration(rt, alloc, request, most, (path, file)),
             Err(status) => status,
         },
     }

@@ -4,7 +4,7 @@ ghost use Rattle.tn_command.specs.JobForms.{text_in_format};
 
 use crate::command::Command;
 use crate::stderr::NamedText;
-use std::alloc::{AllocError, Allocator, Global};
+use std::alloc::{AllocError, Allocator};
 use tn_formats::{Format, in_format};
 use tn_listing::PicksFault;
 use tn_notice::CommandFault;
@@ -88,7 +88,7 @@ impl<A: Allocator + Copy, J: DirectJob<A>> DirectJob<A> for InFormat<'_, J> {
     }
 }
 
-impl<J: Command> Command for InFormat<'_, J> {
+impl<A: Allocator + Copy, J: Command<A>> Command<A> for InFormat<'_, J> {
     ghost flaw = { λ f outcome bytes flawed. J.flaw f.job.now outcome bytes flawed };
 
     ghost said = { J.said };
@@ -108,7 +108,7 @@ impl<J: Command> Command for InFormat<'_, J> {
 
     fn is_flawed(
         &self,
-        alloc: Global,
+        alloc: A,
         outcome: &J::Outcome,
         script: NamedText<'_>,
     ) -> Result<bool, Denial> {

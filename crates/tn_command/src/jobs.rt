@@ -49,19 +49,23 @@ pub fn perform_over<A: Allocator + Copy, J: DirectJob<A>, R: Read, W: Write>(
 }
 
 /// A reader of a script that keeps its text, and why it failed.
-pub(crate) type Script<R> = Watched<LastError<Tee<R, Global>>>;
+pub(crate) type Script<R, A> = Watched<LastError<Tee<R, A>>>;
 
 /// A writer that keeps the output, and why it failed.
 pub(crate) type Recorder<W> = Watched<LastError<Tee<W, Global>>>;
 
 /// A script that is read, and what it is called.
-pub(crate) struct NamedScript<'a, R> {
+pub(crate) struct NamedScript<'a, R, A: Allocator> {
     pub(crate) name: &'a str,
-    pub(crate) reader: Script<R>,
+    pub(crate) reader: Script<R, A>,
 }
 
 /// A script with this name, of which nothing was read yet.
-pub(crate) fn script_of<'a, R>(alloc: Global, name: &'a str, reader: R) -> NamedScript<'a, R>
+pub(crate) fn script_of<'a, R, A: Allocator>(
+    alloc: A,
+    name: &'a str,
+    reader: R,
+) -> NamedScript<'a, R, A>
     ensures { script_inner result ≡ reader }
 {
     let reader = Watched::of(LastError::of(Tee::of(alloc, reader)));
@@ -71,8 +75,9 @@ pub(crate) fn script_of<'a, R>(alloc: Global, name: &'a str, reader: R) -> Named
 /// The status of a strict command line for this outcome, where another would have this status: 1 in place of 0 where
 /// the outcome shows a fault of the script, and 3, after its line on standard error, where there was no memory to say
 /// so.
-fn strict_status<R: Eprint + AllocGlobal, J: Command>(
+fn strict_status<R: Eprint, A: Allocator + Copy, J: Command<A>>(
     rt: &R,
+    alloc: A,
     job: &J,
     outcome: &J::Outcome,
     script: NamedText<'_>,
@@ -81,7 +86,7 @@ fn strict_status<R: Eprint + AllocGlobal, J: Command>(
     ensures { IsStrictStatus true (J.flaw job.now outcome.now script.entry.bytes.now)
         (exit_status status) (exit_status result) }
 {
-    match job.is_flawed(rt.alloc(), outcome, script) {
+    match job.is_flawed(alloc, outcome, script) {
         Ok(flawed) => judge_status(status, !flawed),
         Err(_) if status == ExitCode::SUCCESS => report(rt, CommandFault::Memory),
         Err(_) => status,
@@ -90,11 +95,11 @@ fn strict_status<R: Eprint + AllocGlobal, J: Command>(
 
 /// The status of a job, after a line on standard error where its answer isn't what was asked for. Where a strict
 /// command line takes the outcome as a fault of the script, it is 1 in place of 0.
-pub(crate) fn print_end<R: Eprint + AllocGlobal, J: Command, S: Drop>(
+pub(crate) fn print_end<R: Eprint + AllocGlobal, A: Allocator + Copy, J: Command<A>, S: Drop>(
     rt: &R,
     job: &J,
     end: JobEnd<J::Outcome, J::Fault>,
-    script: NamedScript<'_, S>,
+    script: NamedScript<'_, S, A>,
     unwritten: Option<Error>,
     strict: bool,
 ) -> ExitCode
@@ -113,7 +118,7 @@ pub(crate) fn print_end<R: Eprint + AllocGlobal, J: Command, S: Drop>(
     match answer {
         Ok(outcome) => {
             let status = if strict {
-                strict_status(rt, job, &outcome, text, status)
+                strict_status(rt, *bytes.allocator(), job, &outcome, text, status)
             } else {
                 status
             };
@@ -134,11 +139,17 @@ pub(crate) fn write_error<W: Drop>(writer: Watched<LastError<W>>) -> Option<Erro
 }
 
 /// The same of a job whose output was kept, which is held against what is expected.
-pub(crate) fn print_judgement<R: Eprint + AllocGlobal, J: Command, S: Drop, W: Drop>(
+pub(crate) fn print_judgement<
+    R: Eprint + AllocGlobal,
+    A: Allocator + Copy,
+    J: Command<A>,
+    S: Drop,
+    W: Drop,
+>(
     rt: &R,
     job: &J,
     end: JobEnd<J::Outcome, J::Fault>,
-    script: NamedScript<'_, S>,
+    script: NamedScript<'_, S, A>,
     writer: Recorder<W>,
     expectation: &Expectation<'_>,
 ) -> ExitCode
@@ -198,8 +209,15 @@ fn print_plain<
     R: Eprint + AllocGlobal,
     S: Read + Drop,
     W: Write + Drop,
-    J: Command + DirectJob<Global>,
->(rt: &R, job: &J, streams: Streams<'_, S, W>, expectation: &Expectation<'_>) -> (ExitCode, W)
+    A: Allocator + Copy,
+    J: Command<A> + DirectJob<A>,
+>(
+    rt: &R,
+    alloc: A,
+    job: &J,
+    streams: Streams<'_, S, W>,
+    expectation: &Expectation<'_>,
+) -> (ExitCode, W)
     requires { IsMetByAll expectation.now }
     ensures printed { IsPrintedAs (J.view job.now) (J.flaw job.now) expectation.now (S.remaining streams.entry.reader)
         (W.contents streams.entry.writer) (W.contents result.1) (exit_status result.0) }
@@ -210,9 +228,9 @@ fn print_plain<
         reader,
         writer,
     } = streams;
-    let mut script = script_of(rt.alloc(), name, reader);
+    let mut script = script_of(alloc, name, reader);
     let mut writer = Watched::of(LastError::of(writer));
-    let end = perform_over(rt.alloc(), job, &mut script.reader, &mut writer);
+    let end = perform_over(alloc, job, &mut script.reader, &mut writer);
     let (writer, unwritten) = writer.into_inner().into_parts();
     let status = print_end(rt, job, end, script, unwritten, expectation.strict);
     (status, writer)
@@ -223,8 +241,15 @@ fn print_with_expectation<
     R: Eprint + AllocGlobal,
     S: Read + Drop,
     W: Write + Drop,
-    J: Command + DirectJob<Global>,
->(rt: &R, job: &J, streams: Streams<'_, S, W>, expectation: &Expectation<'_>) -> (ExitCode, W)
+    A: Allocator + Copy,
+    J: Command<A> + DirectJob<A>,
+>(
+    rt: &R,
+    alloc: A,
+    job: &J,
+    streams: Streams<'_, S, W>,
+    expectation: &Expectation<'_>,
+) -> (ExitCode, W)
     ensures printed { IsPrintedAs (J.view job.now) (J.flaw job.now) expectation.now (S.remaining streams.entry.reader)
         (W.contents streams.entry.writer) (W.contents result.1) (exit_status result.0) }
     ensures status { IsStatus (exit_status result.0) }
@@ -234,9 +259,9 @@ fn print_with_expectation<
         reader,
         writer,
     } = streams;
-    let mut script = script_of(rt.alloc(), name, reader);
+    let mut script = script_of(alloc, name, reader);
     let mut memory = Watched::of(LastError::of(Vec::new(rt.alloc())));
-    let end = perform_over(rt.alloc(), job, &mut script.reader, &mut memory);
+    let end = perform_over(alloc, job, &mut script.reader, &mut memory);
     let (output, lack) = memory.into_inner().into_parts();
     let mut writer = Watched::of(LastError::of(writer));
     let end = write_end(job, end, &output, &mut writer);
@@ -252,53 +277,59 @@ pub fn print_over<
     R: Eprint + AllocGlobal,
     S: Read + Drop,
     W: Write + Drop,
-    J: Command + DirectJob<Global>,
->(rt: &R, job: &J, streams: Streams<'_, S, W>, expectation: &Expectation<'_>) -> (ExitCode, W)
+    A: Allocator + Copy,
+    J: Command<A> + DirectJob<A>,
+>(
+    rt: &R,
+    alloc: A,
+    job: &J,
+    streams: Streams<'_, S, W>,
+    expectation: &Expectation<'_>,
+) -> (ExitCode, W)
     ensures printed { IsPrintedAs (J.view job.now) (J.flaw job.now) expectation.now (S.remaining streams.entry.reader)
         (W.contents streams.entry.writer) (W.contents result.1) (exit_status result.0) }
     ensures status { IsStatus (exit_status result.0) }
 {
     if expectation.is_none() {
-        print_plain(rt, job, streams, expectation)
+        print_plain(rt, alloc, job, streams, expectation)
     } else {
-        print_with_expectation(rt, job, streams, expectation)
+        print_with_expectation(rt, alloc, job, streams, expectation)
     }
 }
 
 /// Does a job with the script that a reader with this name holds, and writes to standard output.
-fn print_job<R: Print + Eprint + AllocGlobal, S: Read + Drop, J: Command + DirectJob<Global>>(
-    rt: &R,
-    name: &str,
-    reader: S,
-    job: &J,
-    expectation: &Expectation<'_>,
-) -> ExitCode
+fn print_job<
+    R: Print + Eprint + AllocGlobal,
+    S: Read + Drop,
+    A: Allocator + Copy,
+    J: Command<A> + DirectJob<A>,
+>(rt: &R, alloc: A, script: (&str, S), job: &J, expectation: &Expectation<'_>) -> ExitCode
     ensures { IsStatus (exit_status result) }
 {
+    let (name, reader) = script;
     let writer = io::writer(rt);
     let streams = Streams {
         name,
         reader,
         writer,
     };
-    let (status, _) = print_over(rt, job, streams, expectation);
+    let (status, _) = print_over(rt, alloc, job, streams, expectation);
     status
 }
 
-/// Does a job with the script of a source, and writes to standard output. Where something is expected of the output,
-/// it is held against that.
-pub fn perform<R: Input + Files + Print + Eprint + AllocGlobal, J: Command + DirectJob<Global>>(
-    rt: &R,
-    script: Source<'_>,
-    job: &J,
-    expectation: &Expectation<'_>,
-) -> ExitCode
+/// Does a job with the script of a source in an allocator, and writes to standard output. Where something is expected
+/// of the output, it is held against that.
+pub fn perform<
+    R: Input + Files + Print + Eprint + AllocGlobal,
+    A: Allocator + Copy,
+    J: Command<A> + DirectJob<A>,
+>(rt: &R, alloc: A, script: Source<'_>, job: &J, expectation: &Expectation<'_>) -> ExitCode
     ensures { IsStatus (exit_status result) }
 {
     match script {
-        Source::Input => print_job(rt, INPUT, rt.reader(), job, expectation),
+        Source::Input => print_job(rt, alloc, (INPUT, rt.reader()), job, expectation),
         Source::File(path) => match open(rt, path) {
-            Ok(file) => print_job(rt, path, file, job, expectation),
+            Ok(file) => print_job(rt, alloc, (path, file), job, expectation),
             Err(status) => status,
         },
     }

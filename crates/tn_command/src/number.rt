@@ -1,7 +1,7 @@
 // Numbers in the words of the command line.
 ghost use Rattle.std.specs.Prelude.{◌≡◌, ◌==◌, SomeIff, slice_index};
 ghost use Rattle.std.specs.Str.Parse.{digits_value};
-ghost use Rattle.tn_command.specs.Numbers.{IsPlainNumber};
+ghost use Rattle.tn_command.specs.Numbers.{IsLongNumber, IsPlainNumber};
 
 /// Whether a plus sign is first.
 fn has_plus(text: &str) -> bool
@@ -19,4 +19,14 @@ pub fn plain_number(text: &str) -> Option<u32>
         return None;
     }
     text.parse::<u32>().ok()
+}
+
+/// The same, below 2^64.
+pub fn long_number(text: &str) -> Option<u64>
+    ensures { SomeIff result (IsLongNumber text.now) (digits_value 10 text.now) }
+{
+    if has_plus(text) {
+        return None;
+    }
+    text.parse::<u64>().ok()
 }

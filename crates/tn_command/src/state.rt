@@ -8,7 +8,7 @@ use crate::moves_line::tell_run_refusal;
 use crate::remarks::print_notices;
 use crate::run_outline::{RunOutline, move_count, names_text, sessions_of};
 use crate::stderr::{NamedText, run_fault};
-use std::alloc::Global;
+use std::alloc::Allocator;
 use tn_notice::{CommandFault, Notice, escape_controls, plain_name};
 use tn_run::{Denial, RunFault};
 use tn_state::{StateOutcome, StateRequest};
@@ -58,7 +58,7 @@ fn tell_no_state<R: Eprint + AllocGlobal>(
     );
 }
 
-impl Command for StateRequest<'_> {
+impl<A: Allocator + Copy> Command<A> for StateRequest<'_> {
     ghost use Rattle.tn_command.specs.Flaws.{IsStateFlaw};
     ghost use Rattle.tn_command.specs.Notices.{run_fault_said};
 
@@ -87,7 +87,7 @@ impl Command for StateRequest<'_> {
 
     fn is_flawed(
         &self,
-        alloc: Global,
+        alloc: A,
         outcome: &StateOutcome,
         script: NamedText<'_>,
     ) -> Result<bool, Denial> {

@@ -5,7 +5,7 @@ ghost use Rattle.tn_command.specs.JobForms.{IsTooLong, HasAtMost};
 use crate::command::Command;
 use crate::output_fault::OutputFault;
 use crate::stderr::NamedText;
-use std::alloc::{Allocator, Global};
+use std::alloc::Allocator;
 use tn_listing::PicksFault;
 use tn_notice::CommandFault;
 use tn_program::Program;
@@ -96,7 +96,7 @@ impl<A: Allocator + Copy, J: DirectJob<A>> DirectJob<A> for WithinBytes<'_, J> {
     }
 }
 
-impl<J: Command> Command for WithinBytes<'_, J> {
+impl<A: Allocator + Copy, J: Command<A>> Command<A> for WithinBytes<'_, J> {
     ghost use Rattle.tn_command.specs.Notices.{output_fault_said};
 
     ghost flaw = { λ w outcome bytes flawed. J.flaw w.job.now outcome bytes flawed };
@@ -125,7 +125,7 @@ impl<J: Command> Command for WithinBytes<'_, J> {
 
     fn is_flawed(
         &self,
-        alloc: Global,
+        alloc: A,
         outcome: &J::Outcome,
         script: NamedText<'_>,
     ) -> Result<bool, Denial> {

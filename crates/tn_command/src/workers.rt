@@ -92,7 +92,7 @@ impl Job<Global> for WorkersRun<'_> {
     }
 }
 
-impl Command for WorkersRun<'_> {
+impl Command<Global> for WorkersRun<'_> {
     ghost use Rattle.tn_command.specs.Flaws.{IsWorkersFlaw};
     ghost use Rattle.tn_command.specs.Notices.{live_fault_said, output_fault_said};
 

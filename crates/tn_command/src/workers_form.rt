@@ -113,7 +113,7 @@ pub fn run_workers_in_form_over<R: Read, W: Write, T: Threads + Wait + Sync, G: 
         W.contents writer.old writer.new result.answer }
 {
     let answer = run_live_in_form(rt, alloc, reader, writer, workers, form);
-    let OutputForm { format, most } = form;
+    let OutputForm { format, most, .. } = form;
     let job = &InFormat {
         job: &LiveRun,
         format,

@@ -4,3 +4,4 @@ mod PickLemmas
 mod Appends
 mod AsciiLemmas
 mod MemberTokens
+mod LoadLemmas

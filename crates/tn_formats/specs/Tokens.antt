@@ -5,6 +5,7 @@ use Rattle.json.specs.Token.{Token, key, number}
 use Rattle.json.specs.Tree.{json_tokens}
 use Rattle.json.specs.Written.{Written}
 use Rattle.def_formats.specs.Lines.{message_kind, message_pid}
+use Rattle.def_formats.specs.Summaries.{Load}
 use Rattle.def_formats.specs.JsonRows.{text_value, numeral_value}
 use Rattle.def_formats.specs.RefusalRows.{place_value}
 
@@ -35,6 +36,10 @@ tokens_of_members (m ∷ ms) = key m.0 ∷ (json_tokens m.1 ++ tokens_of_members
 -- of a session
 abbrev pub session_tokens : (name tracer : List ℕ) → List Token
 session_tokens name tracer = text_member (codes "session") name ++ text_member (codes "tracer") tracer
+
+-- of so many messages with so many bytes
+abbrev pub load_tokens : Load → List Token
+load_tokens l = number_member (codes "messages") l.messages ++ number_member (codes "bytes") l.bytes
 
 -- of a message
 abbrev pub message_tokens : ℕ → List ℕ → List Token

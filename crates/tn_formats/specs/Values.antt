@@ -3,9 +3,9 @@ use Rattle.def_formats.specs.Sections as definition
 use Rattle.def_formats.specs.Sections.{session_section, replies_section, journal_section}
 use Rattle.def_formats.specs.Summaries as summaries
 use Rattle.def_formats.specs.Formats as formats
-use Rattle.def_formats.specs.Formats.{summary_format, output_format, account_format, text_format}
+use Rattle.def_formats.specs.Formats.{summary_format, output_format, load_format, account_format, text_format}
 use Rattle.tn_formats.specs.declared.format.Format.{Format}
-use Rattle.tn_formats.specs.declared.format.Format.TheVariants.{Summary, OutputJson, AccountJson, TextJson}
+use Rattle.tn_formats.specs.declared.format.Format.TheVariants.{Summary, OutputJson, SummaryJson, AccountJson, TextJson}
 use Rattle.tn_formats.specs.declared.atom.Section.{Section}
 use Rattle.tn_formats.specs.declared.atom.Section.TheVariants.{Session, Replies, Journal}
 use Rattle.tn_formats.specs.declared.load.Load.{Load}
@@ -25,5 +25,6 @@ line_seen m = record { number = m.number; line = m.line.now }
 abbrev pub format_seen : Format → formats.Format
 format_seen Summary = summary_format
 format_seen OutputJson = output_format
+format_seen SummaryJson = load_format
 format_seen AccountJson = account_format
 format_seen TextJson = text_format

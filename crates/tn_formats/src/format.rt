@@ -4,6 +4,7 @@ ghost use Rattle.def_formats.specs.Formats.{in_format};
 ghost use Rattle.tn_formats.specs.Values.{format_seen};
 
 use crate::json_lines::{account_json, output_json, text_json};
+use crate::load_rows::summary_json;
 use crate::summary::summary_of;
 use std::alloc::{AllocError, Allocator};
 
@@ -15,6 +16,8 @@ pub enum Format {
     Summary,
     /// The output of a run as JSON, a value a line: the sessions with their messages, the replies and the journal.
     OutputJson,
+    /// The summary of the output of a run as JSON, a value a line.
+    SummaryJson,
     /// The account of a run as JSON, a value a line: the moves, and what the sessions make of each.
     AccountJson,
     /// Any other text as JSON: a value for each of its lines.
@@ -36,6 +39,7 @@ pub fn in_format<A: Allocator + Copy>(
     match format {
         Format::Summary => summary_of(alloc, text),
         Format::OutputJson => output_json(alloc, text),
+        Format::SummaryJson => summary_json(alloc, text),
         Format::AccountJson => account_json(alloc, text),
         Format::TextJson => text_json(alloc, text),
     }

@@ -11,6 +11,7 @@ mod json_lines;
 mod line_members;
 mod lines;
 mod load;
+mod load_rows;
 mod longest;
 mod parts;
 mod picks;

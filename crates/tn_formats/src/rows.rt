@@ -76,7 +76,10 @@ pub struct Names<'a> {
 }
 
 /// Writes the members that name a session.
-fn put_names<A: Allocator>(writer: &mut Writer<A>, names: Names<'_>) -> Result<(), AllocError>
+pub(crate) fn put_names<A: Allocator>(
+    writer: &mut Writer<A>,
+    names: Names<'_>,
+) -> Result<(), AllocError>
     ensures { AddsTokens result writer.old writer.new (session_tokens names.entry.name.now names.entry.tracer.now) }
 {
     put_text_member(writer, "session", names.name)?;

@@ -86,11 +86,17 @@ six_after : (xs : List (List ℕ)) (a b d f h k : List ℕ) → ((xs ++ a ∷ b 
 six_after [] a b d f h k = refl
 six_after (x ∷ xs) a b d f h k = ap (λ l. x ∷ l) (six_after xs a b d f h k)
 
--- the six arguments that say what the output must be, and its commands, and which file it goes to
-pub expectation_more : (old second third fourth fifth sixth new : Command) (a b d f h k : Arg) → a.id.now ≡ codes "expect" → b.id.now ≡ codes "expect-line"
-    → d.id.now ≡ codes "reject-line" → f.id.now ≡ codes "strict" → h.id.now ≡ codes "max-output" → k.id.now ≡ codes "output" → AddsArg old a second → AddsArg second b third
-    → AddsArg third d fourth → AddsArg fourth f fifth → AddsArg fifth h sixth → AddsArg sixth k new → IsWithExpectation old new
-expectation_more old second third fourth fifth sixth new a b d f h k is_a is_b is_d is_f is_h is_k with_a with_b with_d with_f with_h with_k = record {
+-- seven arguments, one after the other
+seven_after : (xs : List (List ℕ)) (a b d f h k m : List ℕ) → ((xs ++ a ∷ b ∷ d ∷ f ∷ h ∷ k ∷ []) ++ m ∷ []) ≡ xs ++ a ∷ b ∷ d ∷ f ∷ h ∷ k ∷ m ∷ []
+seven_after [] a b d f h k m = refl
+seven_after (x ∷ xs) a b d f h k m = ap (λ l. x ∷ l) (seven_after xs a b d f h k m)
+
+-- the seven arguments that say what the output must be, and its commands, how much it may take, and which file it goes to
+pub expectation_more : (old second third fourth fifth sixth seventh new : Command) (a b d f h k m : Arg) → a.id.now ≡ codes "expect" → b.id.now ≡ codes "expect-line"
+    → d.id.now ≡ codes "reject-line" → f.id.now ≡ codes "strict" → h.id.now ≡ codes "max-output" → k.id.now ≡ codes "max-memory" → m.id.now ≡ codes "output"
+    → AddsArg old a second → AddsArg second b third → AddsArg third d fourth → AddsArg fourth f fifth → AddsArg fifth h sixth → AddsArg sixth k seventh
+    → AddsArg seventh m new → IsWithExpectation old new
+expectation_more old second third fourth fifth sixth seventh new a b d f h k m is_a is_b is_d is_f is_h is_k is_m with_a with_b with_d with_f with_h with_k with_m = record {
   takes_more = λ name arguments is.
       let one = one_more name arguments (codes "expect") old second a is is_a with_a in
       let two = one_more name _ (codes "expect-line") second third b one is_b with_b in
@@ -100,10 +106,12 @@ expectation_more old second third fourth fifth sixth new a b d f h k is_a is_b i
       let next = subst (λ l. IsCommand name l fifth) (four_after arguments (codes "expect") (codes "expect-line") (codes "reject-line") (codes "strict")) four in
       let five = one_more name _ (codes "max-output") fifth sixth h next is_h with_h in
       let last = subst (λ l. IsCommand name l sixth) (five_after arguments (codes "expect") (codes "expect-line") (codes "reject-line") (codes "strict") (codes "max-output")) five in
-      let six = one_more name _ (codes "output") sixth new k last is_k with_k in
-      subst (λ l. IsCommand name l new) (six_after arguments (codes "expect") (codes "expect-line") (codes "reject-line") (codes "strict") (codes "max-output") (codes "output")) six;
-  wants_so = λ g wants. still_wants g sixth new k (still_wants g fifth sixth h (still_wants g fourth fifth f (still_wants g third fourth d
-      (still_wants g second third b (still_wants g old second a wants with_a) with_b) with_d) with_f) with_h) with_k;
+      let six = one_more name _ (codes "max-memory") sixth seventh k last is_k with_k in
+      let whole = subst (λ l. IsCommand name l seventh) (six_after arguments (codes "expect") (codes "expect-line") (codes "reject-line") (codes "strict") (codes "max-output") (codes "max-memory")) six in
+      let seven = one_more name _ (codes "output") seventh new m whole is_m with_m in
+      subst (λ l. IsCommand name l new) (seven_after arguments (codes "expect") (codes "expect-line") (codes "reject-line") (codes "strict") (codes "max-output") (codes "max-memory") (codes "output")) seven;
+  wants_so = λ g wants. still_wants g seventh new m (still_wants g sixth seventh k (still_wants g fifth sixth h (still_wants g fourth fifth f (still_wants g third fourth d
+      (still_wants g second third b (still_wants g old second a wants with_a) with_b) with_d) with_f) with_h) with_k) with_m;
 }
 
 -- a command with these after its own arguments, where there was memory for that

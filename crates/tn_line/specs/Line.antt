@@ -3,7 +3,7 @@ use Rattle.std.specs.Prelude.{◌≡◌, ℕ, pos, List, [], ◌∷◌, ◌++◌
 use Rattle.clap.specs.declared.builder.arg.Arg.{Arg}
 use Rattle.clap.specs.declared.builder.arg_group.ArgGroup.{ArgGroup}
 use Rattle.clap.specs.declared.builder.action.ArgAction.TheVariants.{Append, Set, SetTrue}
-use Rattle.clap.specs.declared.builder.value_parser.ValueParser.TheVariants.{Signed}
+use Rattle.clap.specs.declared.builder.value_parser.ValueParser.TheVariants.{Signed, Unsigned}
 use Rattle.clap.specs.declared.builder.command.Command.{Command}
 use Rattle.clap.specs.declared.builder.command.Command.TheViews.{out-Command}
 use Rattle.clap.specs.Facts.{args_of, groups_of}
@@ -32,6 +32,10 @@ IsElse value a = (rule_of a).defaults ≡ value ∷ []
 -- the value is a number from the least to the most
 abbrev pub IsFromTo : ℕ → ℕ → Arg → Type 0
 IsFromTo least most a = a.value_parser ≡ Some (Signed (pos least) (pos most))
+
+-- the same of a number that has 64 bits
+abbrev pub IsCountFromTo : ℕ → ℕ → Arg → Type 0
+IsCountFromTo least most a = a.value_parser ≡ Some (Unsigned least most)
 
 -- the names of a command's arguments, in their order
 abbrev pub argument_names : Command → List (List ℕ)
@@ -88,7 +92,7 @@ pub record IsWithFormats (old new : Command) : Type 0 where
 
 -- the arguments that say what the output must be, whether each command must be done, how long the output may be, and which file it goes to
 abbrev pub EXPECTATION : List (List ℕ)
-EXPECTATION = codes "expect" ∷ codes "expect-line" ∷ codes "reject-line" ∷ codes "strict" ∷ codes "max-output" ∷ codes "output" ∷ []
+EXPECTATION = codes "expect" ∷ codes "expect-line" ∷ codes "reject-line" ∷ codes "strict" ∷ codes "max-output" ∷ codes "max-memory" ∷ codes "output" ∷ []
 
 -- the command has these arguments after its own, and wants its picks as it did
 pub record IsWithExpectation (old new : Command) : Type 0 where
@@ -144,7 +148,7 @@ SCHEDULES = codes "script" ∷ codes "after" ∷ codes "control" ∷ codes "orde
 -- the arguments of `explore`
 abbrev pub EXPLORE_ARGUMENTS : List (List ℕ)
 EXPLORE_ARGUMENTS =
-    SCHEDULES ++ codes "shows" ∷ codes "always" ∷ codes "never" ∷ codes "sometimes" ∷ codes "random" ∷ codes "seed" ∷ codes "reduce" ∷ codes "max-states" ∷ codes "max-output" ∷ codes "output" ∷ []
+    SCHEDULES ++ codes "shows" ∷ codes "always" ∷ codes "never" ∷ codes "sometimes" ∷ codes "random" ∷ codes "seed" ∷ codes "reduce" ∷ codes "max-states" ∷ codes "max-output" ∷ codes "max-memory" ∷ codes "output" ∷ []
 
 -- which trace, with which schedules it is compared, and whether the answer is JSON
 abbrev pub TRACES : List (List ℕ)
@@ -152,7 +156,7 @@ TRACES = codes "script" ∷ codes "trace" ∷ codes "prefix" ∷ codes "after" �
 
 -- the arguments of `compare`
 abbrev pub COMPARE_ARGUMENTS : List (List ℕ)
-COMPARE_ARGUMENTS = TRACES ++ codes "order" ∷ codes "session" ∷ codes "max-states" ∷ codes "max-output" ∷ codes "output" ∷ []
+COMPARE_ARGUMENTS = TRACES ++ codes "order" ∷ codes "session" ∷ codes "max-states" ∷ codes "max-output" ∷ codes "max-memory" ∷ codes "output" ∷ []
 
 -- the commands of the program
 abbrev pub COMMAND_NAMES : List (List ℕ)

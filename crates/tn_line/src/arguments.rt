@@ -1,6 +1,7 @@
 // The arguments of the commands.
 ghost use Rattle.std.specs.Prelude.{◌≡◌, ◌∷◌, [], codes, true, IfOk};
-ghost use Rattle.tn_line.specs.Line.{IsOption, IsOptions, IsFlag, IsWord, IsElse, IsFromTo, IsOneOf, Excludes};
+ghost use Rattle.tn_line.specs.Line.{IsOption, IsOptions, IsFlag, IsWord, IsElse, IsFromTo, IsCountFromTo, IsOneOf};
+ghost use Rattle.tn_line.specs.Line.{Excludes};
 ghost use Rattle.tn_line.specs.Line.{PICKS, PICKS_OR_ROUND};
 
 use clap::{Arg, ArgAction, ArgGroup, value_parser};
@@ -207,6 +208,23 @@ pub(crate) fn max_output<'a>(alloc: Global) -> Arg<'a>
             "How many bytes the output may have, from 1 to\n4294967295; where it has more, nothing is\nwritten",
         )
         .value_parser(value_parser!(u32).range(1..=4294967295))
+        .default_value("1073741824")
+        .action(ArgAction::Set)
+}
+
+/// `--max-memory BYTES`.
+pub(crate) fn max_memory<'a>(alloc: Global) -> Arg<'a>
+    ensures named { IsOption (codes "max-memory") result }
+    ensures value { IsElse (codes "1073741824") result }
+    ensures range { IsCountFromTo 1 18446744073709551615 result }
+{
+    Arg::new(alloc, "max-memory")
+        .long("max-memory")
+        .value_name("BYTES")
+        .help(
+            "How many bytes of memory the run may take, from 1; where it needs more, nothing is written",
+        )
+        .value_parser(value_parser!(u64).range(1..))
         .default_value("1073741824")
         .action(ArgAction::Set)
 }

@@ -6,8 +6,8 @@ ghost use Rattle.tn_line.specs.Line.{PICKS, PICKS_OR_ROUND, BY_PICKS, BY_PICKS_O
 ghost use Rattle.tn_line.specs.Line.{RUN, REPLAY, EXPLAIN, DRAW, ROUND, WORKERS, TRIAL};
 
 use crate::arguments::{
-    caller, control, event, expect, expect_line, expect_session, in_rounds, json, json_alone,
-    limit, list, max_output, message, move_number, moves, moves_file, node, of_fun, one_of_picks,
+    caller, control, event, expect, expect_line, expect_session, in_rounds, json, limit, list,
+    max_memory, max_output, message, move_number, moves, moves_file, node, of_fun, one_of_picks,
     output, own_process, picks, picks_file, picks_or_round, quiet, reject_line, script, session,
     spec_file, specification, spread, strict, summary, text, turns, why_not, without_picks,
     worker_count,
@@ -73,12 +73,13 @@ fn with_formats<'a>(alloc: Global, command: Command<'a>) -> Result<Command<'a>, 
 {
     command
         .arg(summary(alloc))?
-        .arg(json_alone(alloc)?)?
+        .arg(json(alloc))?
         .arg(expect_session(alloc)?)
 }
 
 /// The command with `[--expect FILE] [--expect-line TEXT] [--reject-line TEXT] [--strict] [--max-output BYTES]
-/// [--output FILE]` more, which say what its output must be, and its commands, and which file the output goes to.
+/// [--max-memory BYTES] [--output FILE]` more, which say what its output must be, and its commands, how much it may
+/// take, and which file the output goes to.
 pub(crate) fn with_expectation<'a>(
     alloc: Global,
     command: Command<'a>,
@@ -91,6 +92,7 @@ pub(crate) fn with_expectation<'a>(
         .arg(reject_line(alloc))?
         .arg(strict(alloc))?
         .arg(max_output(alloc))?
+        .arg(max_memory(alloc))?
         .arg(output(alloc))
 }
 

@@ -2,7 +2,7 @@
 ghost use Rattle.std.specs.Prelude.{codes, IfOk};
 ghost use Rattle.tn_line.specs.Line.{COMPARE_ARGUMENTS, TRACES, IsCommand, IsFlag, IsOption};
 
-use crate::arguments::{json, max_output, output, script};
+use crate::arguments::{json, max_memory, max_output, output, script};
 use crate::explore_command::{after, first_control, listing_order, max_states, one_session};
 use clap::{Arg, ArgAction, Command};
 use std::alloc::{AllocError, Global};
@@ -47,7 +47,7 @@ fn traces<'a>(alloc: Global) -> Result<Command<'a>, AllocError>
 }
 
 /// The subcommand `compare [SCRIPT] --trace FILE [--prefix] [--after MOVES] [--control first] [--order ORDER]
-/// [--session NAME] [--json] [--max-states N] [--max-output BYTES] [--output FILE]`.
+/// [--session NAME] [--json] [--max-states N] [--max-output BYTES] [--max-memory BYTES] [--output FILE]`.
 pub(crate) fn compare<'a>(alloc: Global) -> Result<Command<'a>, AllocError>
     ensures { IfOk result (IsCommand (codes "compare") COMPARE_ARGUMENTS) }
 {
@@ -56,5 +56,6 @@ pub(crate) fn compare<'a>(alloc: Global) -> Result<Command<'a>, AllocError>
         .arg(one_session(alloc))?
         .arg(max_states(alloc))?
         .arg(max_output(alloc))?
+        .arg(max_memory(alloc))?
         .arg(output(alloc))
 }

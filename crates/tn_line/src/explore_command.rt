@@ -3,7 +3,7 @@ ghost use Rattle.std.specs.Prelude.{codes, IfOk};
 ghost use Rattle.tn_line.specs.Line.{EXPLORE_ARGUMENTS, SCHEDULES, IsCommand, IsElse, IsFlag, IsFromTo, IsOption};
 ghost use Rattle.tn_line.specs.Line.{IsOptions};
 
-use crate::arguments::{ORDERS, json_alone, max_output, output, script, summary};
+use crate::arguments::{ORDERS, json_alone, max_memory, max_output, output, script, summary};
 use clap::{Arg, ArgAction, Command, value_parser};
 use std::alloc::{AllocError, Global};
 
@@ -197,7 +197,7 @@ fn schedules<'a>(alloc: Global) -> Result<Command<'a>, AllocError>
 
 /// The subcommand `explore [SCRIPT] [--after MOVES] [--control first] [--order ORDER] [--session NAME]
 /// [--summary] [--json] [--shows PATTERN] [--always PATTERN] [--never PATTERN] [--sometimes PATTERN] [--random N]
-/// [--seed S] [--reduce] [--max-states N] [--max-output BYTES] [--output FILE]`.
+/// [--seed S] [--reduce] [--max-states N] [--max-output BYTES] [--max-memory BYTES] [--output FILE]`.
 pub(crate) fn explore<'a>(alloc: Global) -> Result<Command<'a>, AllocError>
     ensures { IfOk result (IsCommand (codes "explore") EXPLORE_ARGUMENTS) }
 {
@@ -211,5 +211,6 @@ pub(crate) fn explore<'a>(alloc: Global) -> Result<Command<'a>, AllocError>
         .arg(reduce(alloc)?)?
         .arg(max_states(alloc))?
         .arg(max_output(alloc))?
+        .arg(max_memory(alloc))?
         .arg(output(alloc))
 }

@@ -12,8 +12,11 @@ ghost use Rattle.tn_plain.specs.Words.{IsLimit, spelled_number, AsksFor, AsksNot
 
 use std::process::ExitCode;
 use std::rt::{Env, Files};
-use tn_command::{MAX_OUTPUT, REFUSED, Source, WithinBytes, arguments, perform, plain_number};
+use tn_command::{
+    MAX_MEMORY, MAX_OUTPUT, REFUSED, Source, WithinBytes, arguments, perform, plain_number,
+};
 use tn_expectation::Expectation;
+use tn_memory::WithinMemory;
 use tn_moves::Schedule;
 use tn_notice::{Notice, print_notice};
 use tn_replay::Replay;
@@ -74,7 +77,8 @@ fn start<R: Env + Input + Files + Print + Eprint + AllocGlobal>(rt: &R) -> ExitC
             };
             let most = MAX_OUTPUT;
             let within = &WithinBytes { job, most };
-            perform(rt, Source::Input, within, &Expectation::NONE)
+            let heap = WithinMemory::of(rt.alloc(), MAX_MEMORY);
+            perform(rt, &heap, Source::Input, within, &Expectation::NONE)
         }
         None => {
             let words = "error: the words are run, replay --picks TEXT, or round [--limit N]";

@@ -3,7 +3,6 @@ use denote.RattleType.{RattleType}
 use mir.Syntax.{Sym}
 use denote.Struct.Declared.{fields, shape}
 use denote.Struct.Tuple.{TupleAt, type_at}
-use denote.Ref.{NamedLft}
 use denote.Param.Send.{IsSend, IsSync, AllSend, AllSync, Frees, recorded_send, recorded_sync, struct_send, struct_sync, sendable}
 use Rattle.std.proofs.Common.{List}
 use Rattle.std.specs.declared.alloc.Allocator.{Ghosts}
@@ -69,8 +68,6 @@ use Rattle.tn_listing.specs.contracts.line.Line as line
 use Rattle.once_cell.proofs.race.once_box.OnceBox.TheSendSync as once_box_sent
 use Rattle.tn_pool.specs.contracts.board.Board as board
 use Rattle.std.proofs.Crossing as heap
-use Rattle.std.specs.contracts.alloc.Global as Heap
-use Rattle.std.specs.contracts.impls.GlobalAllocator.TheImpl.{ghosts}
 use Rattle.tn_term.proofs.alive.Alive.TheSendSync as alive_sent
 use Rattle.tn_flags.proofs.flags.Flags.TheSendSync as flags_sent
 use Rattle.tn_session.proofs.state.Phase.TheSendSync as phase_sent
@@ -97,9 +94,6 @@ use Rattle.tn_live.specs.contracts.seat.Seat as seat
 use Rattle.tn_pool.proofs.token.Token.TheSendSync as token_sent
 use Rattle.tn_pool.proofs.report.PoolFault.TheSendSync as pool_fault_sent
 use Rattle.tn_pool.specs.contracts.worker.Worker as worker
-use Rattle.tn_pool.specs.contracts.turns.TurnEnd as turn_end
-use Rattle.atomic_blocks.proofs.web.Web.TheSendSync as web_sent
-use Rattle.atomic_blocks.proofs.web.Seat.TheSendSync as view_sent
 
 module _ (T : RattleType) (g : Ghosts T.Denot) (s : IsSend T) (f : Frees g g.dealloc_token) (y : IsSync T) where
   atom_send : IsSend (atom.the_row T g)
@@ -580,13 +574,6 @@ module _ (T : RattleType) (g : Ghosts T.Denot) (s : IsSend T) (f : Frees g g.dea
 
   pub board_field_sync : IsSync (board.the_field T g).row
   board_field_sync = search (sendable, crosses, heap.sync, once_box_sent.the_sync, line_send, line_field_send, line_sync, line_field_sync, board_sync) depth 40 fits 3000 parts 0
-
-pub board_in_heap : IsSync (board.the_row Heap.the_row ghosts)
-board_in_heap = board_sync Heap.the_row ghosts heap.send heap.frees heap.sync
-
--- a worker's end of the run queue
-pub turn_end_send : (k : NamedLft) → IsSend (turn_end.the_row k Heap.the_row ghosts)
-turn_end_send k = search (sendable, heap.crosses, heap.send, heap.sync, token_sent.the_send, web_sent.the_sync, view_sent.the_send) depth 40 fits 3000 parts 0
 
 -- what a tuple has, each of which may cross
 pub tuple_send : (name : Sym) (types : List RattleType) → AllSend (fields (type_at name types)) → IsSend (TupleAt name types)

@@ -8,3 +8,4 @@ pub mod Reports
 mod Listings
 mod BoardPlaces
 mod Crossings
+mod EndCrossings

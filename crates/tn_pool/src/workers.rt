@@ -12,7 +12,7 @@ use crate::report::{PoolFault, Report};
 use crate::token::Token;
 use crate::turns::{RunQueue, TurnEnd};
 use crate::worker::{Worker, WorkerContext, new_worker, work};
-use std::alloc::{AllocError, Allocator, Global};
+use std::alloc::{AllocError, Allocator};
 use std::marker::{Send, Sync};
 use std::sync::Wait;
 use std::thread;
@@ -20,13 +20,18 @@ use std::thread::Threads;
 use tn_live::{JournalName, Live, Seat};
 
 /// Each worker takes its turns.
-fn run_all<J: JournalName + Send + Sync, R: Threads + Wait + Sync, G: Gate>(
+fn run_all<
+    A: Allocator + Copy + Send + Sync,
+    J: JournalName + Send + Sync,
+    R: Threads + Wait + Sync,
+    G: Gate,
+>(
     rt: &R,
-    live: &Live<Global, J>,
-    board: &Board<Global>,
+    live: &Live<A, J>,
+    board: &Board<A>,
     gate: &G,
     turns: u32,
-    members: &mut [(TurnEnd<'_, Global>, Worker<Global, J>)],
+    members: &mut [(TurnEnd<'_, A>, Worker<A, J>)],
 )
     ensures length { length members.new ≡ length members.old }
     ensures each { (i : ℕ) (d : _) → i < length members.old → WorksAt J.program turns members.old members.new i d }
@@ -39,7 +44,7 @@ fn run_all<J: JournalName + Send + Sync, R: Threads + Wait + Sync, G: Gate>(
         rt,
         members,
         threads,
-        &|_i: usize, member: &mut (TurnEnd<'_, Global>, Worker<Global, J>)|
+        &|_i: usize, member: &mut (TurnEnd<'_, A>, Worker<A, J>)|
             ensures { HasWorked J.program turns member.entry.now member.exit.now }
         {
             let shared = WorkerContext { live, board, gate };
@@ -179,14 +184,19 @@ fn report_without_memory<A: Allocator + Copy, J: JournalName>(
 /// memory is refused for what the workers need before they start, which is room for as many receipts as
 /// all seats may make.
 #[tactic(auto, using(crate::proofs::Reports::nothing_ends))]
-pub fn run_workers<J: JournalName + Send + Sync, R: Threads + Wait + Sync, G: Gate>(
+pub fn run_workers<
+    A: Allocator + Copy + Send + Sync,
+    J: JournalName + Send + Sync,
+    R: Threads + Wait + Sync,
+    G: Gate,
+>(
     rt: &R,
-    live: &Live<Global, J>,
-    board: &Board<Global>,
-    seats: Vec<Seat<Global, J>>,
+    live: &Live<A, J>,
+    board: &Board<A>,
+    seats: Vec<Seat<A, J>, A>,
     gate: &G,
     turns: u32,
-) -> Report<Global, J>
+) -> Report<A, J>
     // All seats come back, with a receipt for each entry that they made meanwhile, and no other.
     ensures reports { Reports J.program seats.items result.seats.items result.receipts.items }
     // How many receipts and tokens there are at most, and that a token which wasn't given back has a fault.

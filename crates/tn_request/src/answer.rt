@@ -30,6 +30,7 @@ use tn_command::{
 };
 use tn_expectation::Expectation;
 use tn_fun_command::{print_fun, print_fun_of_spec, test_fun};
+use tn_memory::WithinMemory;
 use tn_run::RunFault;
 use tn_text::Watched;
 
@@ -78,8 +79,9 @@ pub fn print_request_over<R: Eprint + AllocGlobal, S: Read + Drop, W: Write + Dr
     let job = &job_of(request, read);
     let format = format_of(request, form.format);
     let job = &InFormat { job, format };
-    let OutputForm { most, .. } = form;
-    print_over(rt, &WithinBytes { job, most }, streams, expectation)
+    let OutputForm { most, memory, .. } = form;
+    let heap = WithinMemory::of(rt.alloc(), memory);
+    print_over(rt, &heap, &WithinBytes { job, most }, streams, expectation)
 }
 
 /// Does so with a script of this name, and writes to standard output.
@@ -179,6 +181,6 @@ pub fn answer_request<R: Input + Files + Print + Eprint + AllocGlobal, T: Thread
             print_fun_of_spec(rt, without_full_stop(fun_text_of(fun, read)), fun.dialect)
         }
         Request::Fun(fun) => print_fun(rt, fun_text_of(fun, read), fun.dialect),
-        Request::Explore(words) => explore_words(rt, words, read, form.most),
+        Request::Explore(words) => explore_words(rt, words, read, form),
     }
 }

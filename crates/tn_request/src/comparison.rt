@@ -5,13 +5,13 @@ ghost use Rattle.tn_command.specs.Explorations.{IsExplorationStatus};
 ghost use Rattle.tn_request.specs.Comparisons.{IsTraceAsked, trace_fault_text};
 ghost use Rattle.tn_trace_text.specs.Readings.{IsTraceFault};
 
-use crate::exploration::exploration_of;
+use crate::exploration::explore_within;
 use crate::request::ExploreArgs;
 use std::alloc::{AllocError, Allocator, Global};
 use std::process::ExitCode;
 use std::rt::Files;
 use tn_answers::SearchQuestion;
-use tn_command::{REFUSED, explore_script, report};
+use tn_command::{OutputForm, REFUSED, report};
 use tn_comparison::TraceQuestion;
 use tn_notice::{CommandFault, Notice, escape_controls, plain_name, print_notice};
 use tn_text::write_decimal;
@@ -84,14 +84,14 @@ pub(crate) fn compare_words<R: Input + Files + Print + Eprint + AllocGlobal>(
     words: &ExploreArgs<'_>,
     path: &str,
     read: &[u8],
-    most: usize,
+    form: OutputForm,
 ) -> ExitCode
     ensures { IsExplorationStatus (exit_status result) }
 {
     match trace_of(rt.alloc(), words, read) {
         Ok(trace) => {
             let question = SearchQuestion::Trace(&trace);
-            explore_script(rt, words.script, &exploration_of(words, question), most)
+            explore_within(rt, words, question, form)
         }
         Err(fault) => refuse_trace(rt, path, fault),
     }

@@ -14,8 +14,9 @@ use std::alloc::Global;
 use std::process::ExitCode;
 use std::rt::Files;
 use tn_answers::SearchQuestion;
-use tn_command::{BadValue, explore_script, refuse_value, report};
+use tn_command::{BadValue, OutputForm, explore_script, refuse_value, report};
 use tn_exploration::{ExploreRequest, QuestionsFault, add_questions};
+use tn_memory::WithinMemory;
 use tn_message_pattern::{Demand, PatternQuestion};
 use tn_moves::Schedule;
 use tn_notice::CommandFault;
@@ -124,18 +125,32 @@ pub(crate) fn refuse_pattern<R: Eprint + AllocGlobal>(
     }
 }
 
+/// Explores all schedules for a question, whose answer has at most so many bytes and takes at most so much memory.
+pub(crate) fn explore_within<R: Input + Files + Print + Eprint + AllocGlobal>(
+    rt: &R,
+    words: &ExploreArgs<'_>,
+    question: SearchQuestion<'_, Global>,
+    form: OutputForm,
+) -> ExitCode
+    ensures { IsExplorationStatus (exit_status result) }
+{
+    let heap = WithinMemory::of(rt.alloc(), form.memory);
+    let request = exploration_of(words, question);
+    explore_script(rt, &heap, words.script, &request, form.most)
+}
+
 /// Explores all schedules for the patterns that the words have, or for the listings.
 fn explore_patterns<R: Input + Files + Print + Eprint + AllocGlobal>(
     rt: &R,
     words: &ExploreArgs<'_>,
-    most: usize,
+    form: OutputForm,
 ) -> ExitCode
     ensures { IsExplorationStatus (exit_status result) }
 {
     match patterns_of(rt.alloc(), words) {
         Ok(patterns) => {
             let question = SearchQuestion::Patterns(&patterns);
-            explore_script(rt, words.script, &exploration_of(words, question), most)
+            explore_within(rt, words, question, form)
         }
         Err(refused) => refuse_pattern(rt, refused),
     }
@@ -147,12 +162,12 @@ pub(crate) fn explore_words<R: Input + Files + Print + Eprint + AllocGlobal>(
     rt: &R,
     words: &ExploreArgs<'_>,
     read: &[u8],
-    most: usize,
+    form: OutputForm,
 ) -> ExitCode
     ensures { IsExplorationStatus (exit_status result) }
 {
     match words.trace {
-        Some(path) => compare_words(rt, words, path, read, most),
-        None => explore_patterns(rt, words, most),
+        Some(path) => compare_words(rt, words, path, read, form),
+        None => explore_patterns(rt, words, form),
     }
 }

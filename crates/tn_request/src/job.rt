@@ -9,7 +9,7 @@ ghost use Rattle.tn_explain.specs.Filters.{account_question_seen};
 
 use crate::request::RunRequest;
 use crate::schedule::schedule_of;
-use std::alloc::{Allocator, Global};
+use std::alloc::Allocator;
 use tn_command::{Command, NamedText, run_fault};
 use tn_explain::{ExplainOutcome, ExplainRequest, Filter};
 use tn_formats::Format;
@@ -269,7 +269,7 @@ impl<A: Allocator + Copy> DirectJob<A> for RequestJob<'_> {
     }
 }
 
-impl Command for RequestJob<'_> {
+impl<A: Allocator + Copy> Command<A> for RequestJob<'_> {
     ghost use Rattle.tn_command.specs.Notices.{run_fault_said};
     ghost use Rattle.tn_request.specs.TaskFlaws.{IsTaskFlaw};
     ghost use Rattle.tn_request.specs.Tasks.{task_seen};
@@ -290,16 +290,16 @@ impl Command for RequestJob<'_> {
     ) {
         match (self, outcome) {
             (RequestJob::Replay(job), RequestOutcome::Replay(outcome)) => {
-                job.tell_outcome(rt, outcome, script);
+                <Replay<'_> as Command<A>>::tell_outcome(job, rt, outcome, script);
             }
             (RequestJob::Explain(job), RequestOutcome::Explain(outcome)) => {
-                job.tell_outcome(rt, outcome, script);
+                <ExplainRequest<'_> as Command<A>>::tell_outcome(job, rt, outcome, script);
             }
             (RequestJob::State(job), RequestOutcome::State(outcome)) => {
-                job.tell_outcome(rt, outcome, script);
+                <StateRequest<'_> as Command<A>>::tell_outcome(job, rt, outcome, script);
             }
             (RequestJob::Draw(job), RequestOutcome::Draw(outcome)) => {
-                job.tell_outcome(rt, outcome, script);
+                <DrawRequest<'_> as Command<A>>::tell_outcome(job, rt, outcome, script);
             }
             _ => {}
         }
@@ -307,7 +307,7 @@ impl Command for RequestJob<'_> {
 
     fn is_flawed(
         &self,
-        alloc: Global,
+        alloc: A,
         outcome: &RequestOutcome,
         script: NamedText<'_>,
     ) -> Result<bool, Denial> {

@@ -35,15 +35,21 @@ fn gate_of(request: &WorkersRequest<'_>) -> Start {
     Start::new(worker_count(request), request.spread)
 }
 
-/// The workers of a request, by this gate.
-pub fn workers_of<'g>(request: &WorkersRequest<'_>, gate: &'g Start) -> Workers<'g, Start>
+/// The workers of a request, which may take so many bytes of memory, by this gate.
+pub fn workers_of<'g>(
+    request: &WorkersRequest<'_>,
+    memory: u64,
+    gate: &'g Start,
+) -> Workers<'g, Start>
     ensures asked { AreWorkersAsked request.now result }
+    ensures memory { result.memory ≡ memory }
     ensures gate { result.gate ≡ gate.entry }
     ensures count { IsWorkerCount result.count }
 {
     Workers {
         count: worker_count(request),
         turns: request.turns,
+        memory,
         gate,
     }
 }
@@ -83,7 +89,7 @@ pub fn run_workers_request_over<T: Threads + Wait + Sync, R: Read, W: Write>(
         W.contents writer.old writer.new result.answer }
 {
     let gate = gate_of(request);
-    let workers = workers_of(request, &gate);
+    let workers = workers_of(request, form.memory, &gate);
     run_workers_in_form_over(rt, alloc, reader, writer, &workers, form)
 }
 
@@ -102,7 +108,7 @@ pub fn run_workers_request<
     ensures { IsStatus (exit_status result) }
 {
     let gate = gate_of(request);
-    let workers = workers_of(request, &gate);
+    let workers = workers_of(request, form.memory, &gate);
     let job = workers_job_of(request, form, expectation);
     run_workers(rt, threads, request.script, &workers, &job)
 }

@@ -64,7 +64,7 @@ module _ {R O F A : Type 0} (job : JobView O F) (takes : List ℕ → Type 0) (k
     on_neither = λ i. same;
   }
 
-  answered : (picks : Vec ℕ A) (program : Program A) (result : Result (O × Vec ℕ A) F) → ReadsScript job takes known reader reader' (Ok (Accepted picks program))
+  answered : {B : Type 0} (picks : Vec ℕ A) (program : Program A) (result : Result (O × Vec ℕ B) F) → ReadsScript job takes known reader reader' (Ok (Accepted picks program))
       → IfOk result (λ r. IsProgramAnswer job (program_of program) r.0 r.1.items) → IfErr result (IsOfNoEnd job) → Prepares job known reader reader' result
   answered picks program (Ok r) h answer none = record {
     given = if_some_by (λ bytes. gives_program job bytes (program_of program) r.0 r.1.items answer) (known (watched_inner reader)) h.reading.1;
@@ -88,6 +88,35 @@ module _ {R O F A : Type 0} (job : JobView O F) (takes : List ℕ → Type 0) (k
   }
 
   -- the script was accepted, and this is the answer for its program
-  pub prepared_answer : (x : Reading O A) (picks : Vec ℕ A) (program : Program A) (result : Result (O × Vec ℕ A) F) → x ≡ Accepted picks program → ReadsScript job takes known reader reader' (Ok x)
+  pub prepared_answer : {B : Type 0} (x : Reading O A) (picks : Vec ℕ A) (program : Program A) (result : Result (O × Vec ℕ B) F) → x ≡ Accepted picks program → ReadsScript job takes known reader reader' (Ok x)
       → IfOk result (λ r. IsProgramAnswer job (program_of program) r.0 r.1.items) → IfErr result (IsOfNoEnd job) → Prepares job known reader reader' result
   prepared_answer x picks program result is h = answered picks program result (subst (λ y. ReadsScript job takes known reader reader' (Ok y)) is h)
+
+  refused : {B : Type 0} (outcome : O) (line : Vec ℕ A) (result : Result (O × Vec ℕ B) F) → ReadsScript job takes known reader reader' (Ok (Refused outcome line))
+      → IfOk result (λ r. (r.0 ≡ outcome) × (r.1.items ≡ line.items)) → IfErr result (IsOfNoEnd job) → Prepares job known reader reader' result
+  refused outcome line (Ok r) h same none = record {
+    given = subst (λ o. IfSome (known (watched_inner reader)) (λ bytes. Gives job bytes o r.1.items)) (sym same.0)
+        (subst (λ l. IfSome (known (watched_inner reader)) (λ bytes. Gives job bytes outcome l)) (sym same.1) h.reading.1);
+    outcome = subst job.has (sym same.0) h.reading.0;
+    read = h.read;
+    consumed = h.consumed;
+    unread = h.unread;
+    on_read = tt;
+    no_write = tt;
+    on_neither = tt;
+  }
+  refused outcome line (Err e) h same none = record {
+    given = tt;
+    outcome = tt;
+    read = tt;
+    consumed = h.consumed;
+    unread = h.unread;
+    on_read = no_end_of_reader (job.end_of e) none;
+    no_write = λ n. no_end_of_writer (job.end_of e) n none;
+    on_neither = λ i. h.read.unfailed;
+  }
+
+  -- the script was refused, and this is the outcome with the line
+  pub prepared_refusal : {B : Type 0} (x : Reading O A) (outcome : O) (line : Vec ℕ A) (result : Result (O × Vec ℕ B) F) → x ≡ Refused outcome line → ReadsScript job takes known reader reader' (Ok x)
+      → IfOk result (λ r. (r.0 ≡ outcome) × (r.1.items ≡ line.items)) → IfErr result (IsOfNoEnd job) → Prepares job known reader reader' result
+  prepared_refusal x outcome line result is h = refused outcome line result (subst (λ y. ReadsScript job takes known reader reader' (Ok y)) is h)

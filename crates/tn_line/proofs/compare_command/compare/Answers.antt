@@ -10,4 +10,6 @@ returns c =
     let third = one_more name _ (codes "max-states") c.in_ok-arg-2.field-0 c.in_ok-arg-3.field-0 c.max_states.result second c.max_states.ensures.named.0 c.in_ok-arg-3.ensures in
     let fourth = one_more name _ (codes "max-output") c.in_ok-arg-3.field-0 c.in_ok-arg-4.field-0 c.max_output.result third c.max_output.ensures.named.0
     c.in_ok-arg-4.ensures in
-    one_more_so name _ (codes "output") c.in_ok-arg-4.field-0 c.output.result c.arg-5.result fourth c.output.ensures.0 c.arg-5.ensures
+    let fifth = one_more name _ (codes "max-memory") c.in_ok-arg-4.field-0 c.in_ok-arg-5.field-0 c.max_memory.result fourth c.max_memory.ensures.named.0
+    c.in_ok-arg-5.ensures in
+    one_more_so name _ (codes "output") c.in_ok-arg-5.field-0 c.output.result c.arg-6.result fifth c.output.ensures.0 c.arg-6.ensures

@@ -20,4 +20,6 @@ returns c =
     c.in_ok-arg-8.ensures in
     let ninth = one_more name _ (codes "max-output") c.in_ok-arg-8.field-0 c.in_ok-arg-9.field-0 c.max_output.result eighth c.max_output.ensures.named.0
     c.in_ok-arg-9.ensures in
-    one_more_so name _ (codes "output") c.in_ok-arg-9.field-0 c.output.result c.arg-10.result ninth c.output.ensures.0 c.arg-10.ensures
+    let tenth = one_more name _ (codes "max-memory") c.in_ok-arg-9.field-0 c.in_ok-arg-10.field-0 c.max_memory.result ninth c.max_memory.ensures.named.0
+    c.in_ok-arg-10.ensures in
+    one_more_so name _ (codes "output") c.in_ok-arg-10.field-0 c.output.result c.arg-11.result tenth c.output.ensures.0 c.arg-11.ensures
