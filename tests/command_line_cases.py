@@ -253,7 +253,7 @@ def widths_of_help():
     """Each help is at most 80 columns wide, but for its usage and for the lines of an option with all its values."""
     for words in (["--help"], *([command, "--help"] for command in HELPS)):
         ran = run(words)
-        known = ("[possible values: ", "--color <WHEN>", "Usage: ")
+        known = ("[possible values: ", "Usage: ")
         lines = [line for line in ran.stdout.decode().splitlines() if not any(part in line for part in known)]
         wide = [line for line in lines if len(line) > 80]
         check(f"the width of the help {words}", ran.returncode == 0 and len(lines) > 5 and not wide, wide)

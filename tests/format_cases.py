@@ -66,6 +66,12 @@ QUOTED_JSON = rb"""{"session":"'a b: tracer c'","tracer":"'d \\'e'","messages":1
 {"journal":[0,0,0,100,100]}
 """
 
+# The refusals of a script and of picks as JSON.
+REFUSED_JSON = b"""{"refused":2,"line":"refused 2 token at 2","place":"1:3","why":"syntax error: ',' or '}' expected, found the full stop: '{' at 1:1 is not closed"}
+"""
+REFUSED_PICKS_JSON = b"""{"refused":20,"line":"refused 20 bad picks","place":null,"why":"picks are numbers up to 4294967295 with one space between each two"}
+"""
+
 # Lines that are no object of the schema.
 NO_OBJECTS = (
     '{"session":"s1","messages":1}',
@@ -88,6 +94,9 @@ NO_OBJECTS = (
     '{"status":5,"output":"","errors":""}',
     '{"status":0,"output":""}',
     '{"error":"no request"}',
+    '{"refused":0,"line":"","place":null,"why":""}',
+    '{"refused":2,"line":"","place":"1:","why":""}',
+    '{"refused":2,"line":"","why":""}',
     '"text"',
     "[]",
 )
@@ -266,6 +275,7 @@ def schema():
         lines += [(["round", "--quiet", "--json"], script), (["round", "--quiet", "--summary", "--json"], script)]
         lines += [(["explain", "--picks", picks, "--json"], script)]
         lines += [(["state", "--picks", picks, "--at", "0", "--json"], script)]
+    lines += [(["round", "--json"], b"{a."), (["replay", "--picks", "x", "--json"], SEND_HI)]
     for words, script in lines:
         ran = run(words, script)
         name = f"the schema of {' '.join(words)[:60]}"
@@ -293,9 +303,13 @@ def formats():
     wants("the JSON of a trial", run([*trial, "--json"]), 0, told)
     of_examples()
     of_workers()
-    for flag in ("--summary", "--json"):
-        wants(f"a refused script with {flag}", run(["round", flag], b"{"), 2, b"refused 2 token at 1\n")
-        wants(f"refused picks with {flag}", run(["replay", "--picks", "x", flag], SEND_HI), 2, b"refused 20 bad picks\n")
+    wants("a refused script with --summary", run(["round", "--summary"], b"{"), 2, b"refused 2 token at 1\n")
+    refused = ["replay", "--picks", "x"]
+    wants("refused picks with --summary", run([*refused, "--summary"], SEND_HI), 2, b"refused 20 bad picks\n")
+    wants("refused picks with --json", run([*refused, "--json"], SEND_HI), 2, REFUSED_PICKS_JSON)
+    for words in (["run"], ["round"], ["round", "--summary"], ["state", "--round", "--at", "0"], ["explain", "--round"], ["explore"]):
+        wants(f"a refused script with {' '.join(words)} --json", run([*words, "--json"], b"{a."), 2, REFUSED_JSON)
+    wants("workers on a refused script with --json", run(["workers", "--n", "1", "--json"], b"{"), 2, b"refused 2 token at 1\n")
     for words in (["explain", "--picks", "0", "--summary"], [*trial, "--summary"]):
         ran = run(words, SEND_HI)
         check(f"{' '.join(words)} is refused", ran.returncode == 2 and not ran.stdout and ran.stderr, ran)

@@ -64,7 +64,7 @@ def rounds():
             seen = [(ran.returncode, ran.stdout, ran.stderr) for ran in (by_round, by_picks)]
             check(f"the round {words} drawn with {more}", seen[0] == seen[1] and seen[0][0] == 0, seen)
     for words in (["run"], ["draw", "--round"], ["round", "--control", "first"], ["explain", "--round"], ["explain", "--round", "--control", "first"]):
-        wants(f"{words} of a refused script", run(words, b"7."), 2, b"refused 5 form 1\n")
+        wants(f"{words} of a refused script", run(words, b"7."), 2, b"" if words[0] == "draw" else b"refused 5 form 1\n")
 
 
 def moves():
@@ -158,9 +158,9 @@ def bad_moves():
             wants(f"{command} by {text!r}", run([command, "--moves", text], NUMBERS), 2, b"", f"moves:{told}".encode())
     told = b"moves:1:3: several initial processes start in a function f: <0.100.0>, <0.102.0>\n"
     wants("a name of two processes", run(["replay", "--moves", "0 f!"], NAMES), 2, b"", told)
-    for command in ("replay", "draw"):
+    for command, line in (("replay", b"refused 5 form 1\n"), ("draw", b"")):
         ran = run([command, "--moves", "x"], b"7.")
-        wants(f"moves of a script that {command} refuses", ran, 2, b"refused 5 form 1\n")
+        wants(f"moves of a script that {command} refuses", ran, 2, line)
     for words in (
         ["replay", "--moves", "0", "--picks", "0"],
         ["replay", "--moves"],

@@ -103,8 +103,9 @@ def drawings():
         wants(f"the manual's picture by {words[-1]}", run(words), 0, ("\n".join(sample[1:]) + "\n").encode())
     both = run(["draw", "--picks", "0", "--text", "--json"], SEND_HI)
     check("a picture as lines and as JSON", both.returncode == 2 and not both.stdout and b"--json" in both.stderr, both)
-    wants("a picture by bad picks", run(["draw", "--picks", "0 00"], SEND_HI), 2, b"refused 20 bad picks\n")
-    wants("a picture of no script", run(["draw", "--picks", "0"], b"{"), 2, run(["replay", "--picks", "0"], b"{").stdout)
+    wants("a picture by bad picks", run(["draw", "--picks", "0 00"], SEND_HI), 2, b"")
+    for words in ([], ["--text"], ["--json"]):
+        wants(f"a picture of no script {' '.join(words)}", run(["draw", "--picks", "0", *words], b"{"), 2, b"")
     one = ["draw", "--picks", "0", "--text"]
     wants("a picture that is expected", run([*one, "--expect-line", "=>1 session s1"], SEND_HI), 0, run(one, SEND_HI).stdout)
     wants("an empty picture", run(["draw", "--picks", "", "--text"]), 0, b"        \n")

@@ -1,11 +1,12 @@
 """Cases of texts: refused scripts, long texts, prefixes of scripts, and numbers."""
+import json
 import pathlib
 import re
 import tempfile
 
 import scripts
 from explanation_cases import EXPLAIN_ALL
-from harness import EMPTY, NO_FORMS, PLAIN, ROWS, SEND_HI, SEND_HI_PICKS, TEXT_BYTES, check, run, wants
+from harness import EMPTY, NO_FORMS, PLAIN, ROWS, SEND_HI, SEND_HI_PICKS, TEXT_BYTES, check, parsed, run, wants
 from refusals import REFUSALS
 
 # Refused picks, and which pick is none.
@@ -26,8 +27,21 @@ PICK_LINES = (
 )
 
 
+def refusal_object(line, plain):
+    """The object of JSON of a refusal, by the line that says how the script can be mended and by its plain line.
+
+    Of a script that is too long it has the rule alone.
+    """
+    place, why = re.fullmatch(r"script\.term(?::(\d+(?::\d+)?))?: (.*)", line).groups()
+    plain = plain.decode().removesuffix("\n")
+    number = int(plain.split()[1])
+    if number == 1:
+        why = why.partition(": there are ")[0]
+    return {"refused": number, "line": plain, "place": place, "why": why}
+
+
 def refusals():
-    """Each refused script's line, from a file and from standard input, and that of refused picks."""
+    """Each refused script's line, from a file and from standard input, its object, and the line of refused picks."""
     with tempfile.TemporaryDirectory() as folder:
         script = pathlib.Path(folder) / "script.term"
         for text, line in REFUSALS:
@@ -38,6 +52,11 @@ def refusals():
             ran = run(["replay", "--picks", "0"], text.encode())
             wanted = line.replace("script.term:", "script:") + "\n"
             check(f"replay: {line}", ran.returncode == 2 and ran.stderr.decode() == wanted, ran)
+            told = run(["replay", "--picks", "0", "--json"], text.encode())
+            seen = (told.returncode, parsed(line, json.loads, told.stdout), told.stderr.decode())
+            check(f"as JSON: {line}", seen == (2, refusal_object(line, ran.stdout), wanted), told)
+            drawn = run(["draw", "--picks", "0"], text.encode())
+            check(f"no picture: {line}", (drawn.returncode, drawn.stdout, drawn.stderr.decode()) == (2, b"", wanted), drawn)
         (pathlib.Path(folder) / "gr\u00fc\u00df.term").write_text("{")
         ran = run(["round", "gr\u00fc\u00df.term"], cwd=folder)
         check("a name that isn't ASCII", ran.stderr.decode().startswith("gr\u00fc\u00df.term:1:2: "), ran)
@@ -56,11 +75,18 @@ def refusals():
             wants(f"the picks {text}", ran, 2, b"refused 20 bad picks\n", rule + why)
 
 
+# The refusal of a text that is too long, as JSON.
+TOO_LONG_JSON = b"""{"refused":1,"line":"refused 1 too long","place":null,"why":"a script has at most 1048576 bytes"}
+"""
+
+
 def long_texts():
     """A script of 1 MiB, and one of a byte more."""
     replay = ["replay", "--picks", ""]
     wants("1,048,576 blanks", run(replay, b" " * TEXT_BYTES), 0, EMPTY, NO_FORMS)
-    wants("1,048,577 blanks", run(replay, b" " * (TEXT_BYTES + 1)), 2, b"refused 1 too long\n")
+    long = b" " * (TEXT_BYTES + 1)
+    wants("1,048,577 blanks", run(replay, long), 2, b"refused 1 too long\n")
+    wants("1,048,577 blanks as JSON", run([*replay, "--json"], long), 2, TOO_LONG_JSON)
 
 
 # One term with a full stop, and why it is refused; a term that is read is no form.

@@ -2,9 +2,9 @@
 use Rattle.std.proofs.Common.{◌≡◌, ◌∙◌, ℕ, List, Option, None, Some, MatchOption, Result, Ok, Err, IfOk, is_ok, if◌then◌else◌, sym, ap}
 use Rattle.def_script.specs.Program.{Program}
 use Rattle.def_script.specs.Script.{Refusal}
-use Rattle.def_run.specs.Output.{refusal_text}
 use Rattle.tn_run.specs.Answers.{is_listed}
 use Rattle.tn_run.specs.Jobs.{Gives, IsJobRefusal, JobView, OfScript}
+use Rattle.tn_run.specs.RefusalForms.{IsRefusalOutput, text_of_refusal}
 use Rattle.tn_run.specs.declared.live.Ran.{Ran}
 use Rattle.tn_explain.specs.Accounts.{explain_by}
 use Rattle.tn_replay.specs.Notes.{replay_by}
@@ -45,7 +45,7 @@ unbound P W B bytes (Some r) h = h
 -- what a job gives within a bound, it gives without one
 gives_unbound : {O F : Type 0} (most : ℕ) (job : JobView O F) (bytes : List ℕ) (o : O) (x : List ℕ) → Gives (job_within most job) bytes o x → Gives job bytes o x
 gives_unbound most job bytes o x h =
-    unbound (λ p. job.of_program p o x) (HasAtMost most x) (λ r. IsJobRefusal job.reads bytes r × (x ≡ refusal_text r)) bytes (job.refusal_in o) h
+    unbound (λ p. job.of_program p o x) (HasAtMost most x) (λ r. IsJobRefusal job.reads bytes r × IsRefusalOutput job.refusal_form (text_of_refusal r bytes) r x) bytes (job.refusal_in o) h
 
 pub within_has_one : {O F : Type 0} (most : ℕ) (job : JobView O F) → HasOneAnswer job → HasOneAnswer (job_within most job)
 within_has_one most job one = record {

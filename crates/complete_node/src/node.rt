@@ -7,6 +7,7 @@ ghost use Rattle.tn_node.specs.Outlooks.{outlook_seen};
 ghost use Rattle.tn_node.specs.Worlds.{slot_of};
 
 use std::alloc::{AllocError, Allocator};
+use std::sync::Arc;
 use tn_node::{Moved, Node, Outlook};
 use tn_process::Process;
 use tn_program::Program;
@@ -78,8 +79,8 @@ pub fn processes<'a, A: Allocator + Copy>(
     one: &'a Node<A>,
     other: &'a Node<A>,
 ) -> (
-    Option<&'a [Option<Process<A>>]>,
-    Option<&'a [Option<Process<A>>]>,
+    Option<&'a [Option<Arc<Process<A>, A>>]>,
+    Option<&'a [Option<Arc<Process<A>, A>>]>,
 )
     requires { one.now ≡ other.now }
     ensures { option_map (λ ss. map slot_of ss.now) result.0 ≡ option_map (λ ss. map slot_of ss.now) result.1 }

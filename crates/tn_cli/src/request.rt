@@ -414,7 +414,8 @@ fn state<'s, 'a: 's>(matches: &'s ArgMatches<'a>) -> Result<Request<'s>, BadValu
 
 /// What a picture is written as.
 fn format<'a>(matches: &ArgMatches<'a>) -> PictureFormat
-    ensures { result ≡ picture_format_named (is_given matches.now (codes "text")) (is_given matches.now (codes "json")) }
+    ensures { result ≡
+        picture_format_named (is_given matches.now (codes "text")) (is_given matches.now (codes "json")) }
 {
     if flag(matches, "text") {
         PictureFormat::Plain

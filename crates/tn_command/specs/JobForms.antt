@@ -8,6 +8,8 @@ use Rattle.def_formats.specs.MovedRows.{IsMovedJson}
 use Rattle.tn_formats.specs.declared.format.Format.{Format}
 use Rattle.tn_formats.specs.declared.format.Format.TheVariants.{Summary, OutputJson, SummaryJson, AccountJson, TextJson, Coloured}
 use Rattle.tn_run.specs.Jobs.{FailedEnd, GivesMore, IsOfNoEnd, JobView, no_end_failed}
+use Rattle.tn_run.specs.declared.refusal_form.RefusalForm.{RefusalForm}
+use Rattle.tn_run.specs.declared.refusal_form.RefusalForm.TheVariants.{Json}
 use Rattle.tn_run.specs.declared.fault.RunFault.TheVariants.{OutOfMemory}
 use Rattle.tn_run.specs.declared.fault.LiveFault.{LiveFault}
 use Rattle.tn_run.specs.declared.fault.LiveFault.TheVariants.{Run}
@@ -35,6 +37,7 @@ abbrev pub job_in_text : {O F : Type 0} → Option Format → JobView O F → Jo
 job_in_text format job = record {
   of_program = λ p outcome output. IsTextIn format (job.of_program p outcome) output;
   refusal_in = job.refusal_in;
+  refusal_form = job.refusal_form;
   succeeds = job.succeeds;
   has = job.has;
   reads = job.reads;
@@ -57,11 +60,22 @@ pub record IsOutputIn (format : Option Format) (p : Program) (IsPlain : List ℕ
   pub is_plain : IsPlain plain
   pub text_is : IsTextInFormat format p plain text
 
--- the same, with the moves of the messages of an output as JSON
+-- what is written for a refusal in a format: an object where the output is JSON
+abbrev pub refusals_in_format : Option Format → RefusalForm → RefusalForm
+refusals_in_format None form = form
+refusals_in_format (Some Summary) form = form
+refusals_in_format (Some SummaryJson) form = Json
+refusals_in_format (Some OutputJson) form = Json
+refusals_in_format (Some AccountJson) form = Json
+refusals_in_format (Some TextJson) form = Json
+refusals_in_format (Some Coloured) form = form
+
+-- the same, with the moves of the messages of an output as JSON, and refusals as objects where it is JSON
 abbrev pub job_in : {O F : Type 0} → Option Format → JobView O F → JobView O F
 job_in format job = record {
   of_program = λ p outcome output. IsOutputIn format p (job.of_program p outcome) output;
   refusal_in = job.refusal_in;
+  refusal_form = refusals_in_format format job.refusal_form;
   succeeds = job.succeeds;
   has = job.has;
   reads = job.reads;
@@ -90,6 +104,7 @@ abbrev pub job_within : {O F : Type 0} → (most : ℕ) → JobView O F → JobV
 job_within most job = record {
   of_program = λ p outcome output. job.of_program p outcome output × HasAtMost most output;
   refusal_in = job.refusal_in;
+  refusal_form = job.refusal_form;
   succeeds = job.succeeds;
   has = job.has;
   reads = job.reads;

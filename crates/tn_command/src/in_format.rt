@@ -2,7 +2,7 @@
 ghost use Rattle.std.specs.Prelude.{◌≡◌, IfOk, Some};
 ghost use Rattle.def_formats.specs.MovedRows.{IsMovedJson, IsSpelledOrNone};
 ghost use Rattle.tn_program.specs.Views.{program_of};
-ghost use Rattle.tn_command.specs.JobForms.{IsTextInFormat, text_in_format};
+ghost use Rattle.tn_command.specs.JobForms.{IsTextInFormat, refusals_in_format, text_in_format};
 
 use crate::command::Command;
 use crate::stderr::NamedText;
@@ -12,9 +12,9 @@ use tn_listing::{PicksFault, read_picks};
 use tn_message_moves::message_moves;
 use tn_notice::CommandFault;
 use tn_program::Program;
-use tn_run::{Denial, DirectJob, Job, Refusal, RunFault};
+use tn_run::{Denial, DirectJob, Job, Refusal, RefusalForm, RunFault};
 
-/// A job whose output is written in a format, where one is given. A refusal has its line as it is.
+/// A job whose output is written in a format, where one is given. A refusal is an object where the output is JSON.
 #[derive(Clone, Copy)]
 pub struct InFormat<'a, J> {
     pub job: &'a J,
@@ -94,6 +94,18 @@ fn program_text<A: Allocator + Copy>(
     }
 }
 
+/// What is written in a format for a refusal, for which this is written in none.
+fn refusal_form_in(format: Option<Format>, form: RefusalForm) -> RefusalForm
+    ensures { result ≡ refusals_in_format format form }
+{
+    match format {
+        None => form,
+        Some(Format::Summary | Format::Coloured) => form,
+        Some(Format::OutputJson | Format::SummaryJson) => RefusalForm::Json,
+        Some(Format::AccountJson | Format::TextJson) => RefusalForm::Json,
+    }
+}
+
 impl<A: Allocator + Copy, J: Job<A>> Job<A> for InFormat<'_, J> {
     ghost use Rattle.tn_command.specs.JobForms.{job_in};
 
@@ -109,8 +121,9 @@ impl<A: Allocator + Copy, J: Job<A>> Job<A> for InFormat<'_, J> {
         self.job.picks(alloc)
     }
 
-    fn refusal_outcome(&self, alloc: A, refusal: Refusal) -> J::Outcome {
-        self.job.refusal_outcome(alloc, refusal)
+    fn refusal_outcome(&self, alloc: A, refusal: Refusal) -> (J::Outcome, RefusalForm) {
+        let (outcome, form) = self.job.refusal_outcome(alloc, refusal);
+        (outcome, refusal_form_in(self.format, form))
     }
 
     fn succeeds(&self, outcome: &J::Outcome) -> bool {

@@ -9,9 +9,9 @@ use std::alloc::Allocator;
 use tn_listing::PicksFault;
 use tn_notice::CommandFault;
 use tn_program::Program;
-use tn_run::{Denial, DirectJob, Job, Refusal, RunFault};
+use tn_run::{Denial, DirectJob, Job, Refusal, RefusalForm, RunFault};
 
-/// A job whose output is written where it has at most so many bytes. A refusal has its line as it is.
+/// A job whose output is written where it has at most so many bytes. What is written for a refusal has no bound.
 #[derive(Clone, Copy)]
 pub struct WithinBytes<'a, J> {
     pub job: &'a J,
@@ -53,7 +53,7 @@ impl<A: Allocator + Copy, J: Job<A>> Job<A> for WithinBytes<'_, J> {
         self.job.picks(alloc)
     }
 
-    fn refusal_outcome(&self, alloc: A, refusal: Refusal) -> J::Outcome {
+    fn refusal_outcome(&self, alloc: A, refusal: Refusal) -> (J::Outcome, RefusalForm) {
         self.job.refusal_outcome(alloc, refusal)
     }
 

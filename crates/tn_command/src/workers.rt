@@ -31,7 +31,10 @@ use tn_listing::PicksFault;
 use tn_notice::{CommandFault, NodeCommand, print_notice};
 use tn_pool::Gate;
 use tn_replay::text_note;
-use tn_run::{Denial, Job, LiveFault, LiveRun, Outcome, Ran, Refusal, RunFault, Workers, run_live};
+use tn_run::{
+    Denial, Job, LiveFault, LiveRun, Outcome, Ran, Refusal, RefusalForm, RunFault, Workers,
+    run_live,
+};
 use tn_text::Watched;
 
 /// Runs the script that a reader holds by workers: what the writer gained is what the status says.
@@ -79,7 +82,7 @@ impl Job<Global> for WorkersRun<'_> {
         LiveRun.picks(alloc)
     }
 
-    fn refusal_outcome(&self, alloc: Global, refusal: Refusal) -> Ran {
+    fn refusal_outcome(&self, alloc: Global, refusal: Refusal) -> (Ran, RefusalForm) {
         LiveRun.refusal_outcome(alloc, refusal)
     }
 

@@ -13,6 +13,5 @@ pub mod BeforePicks
 pub mod DifferenceLines
 pub mod NodeMoveTexts
 pub mod ChosenMoveTexts
-pub mod NumberTexts
 mod CommandDifferences
 mod Explanations

@@ -9,6 +9,7 @@ use Rattle.def_message_choice.specs.ChosenAccounts.{AccountQuestion, account_que
 use Rattle.tn_moves.specs.Schedules.{schedule_seen, ArePicks, HasPicks}
 use Rattle.tn_run.specs.Answers.{IsRefusedRun, text_refusal}
 use Rattle.tn_run.specs.Jobs.{JobView, failed_end}
+use Rattle.tn_run.specs.declared.refusal_form.RefusalForm.TheVariants.{Line}
 use Rattle.tn_run.specs.declared.fault.RunFault.{RunFault}
 use Rattle.tn_explain.specs.Filters.{account_question_seen}
 use Rattle.tn_explain.specs.declared.request.ExplainRequest.{ExplainRequest}
@@ -77,6 +78,7 @@ abbrev pub explain_by : ExplainRequest → JobView ExplainOutcome RunFault
 explain_by q = record {
   of_program = IsExplanation q;
   refusal_in = explain_refusal;
+  refusal_form = Line;
   succeeds = is_account;
   has = λ outcome. Unit {0};
   reads = HasPicks (schedule_seen q.schedule);

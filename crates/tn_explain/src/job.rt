@@ -12,7 +12,7 @@ use std::io::{Read, Write};
 use tn_listing::PicksFault;
 use tn_moves::MovesFault;
 use tn_program::Program;
-use tn_run::{DirectJob, Job, Refusal, RunFault, RunRefusal, transact};
+use tn_run::{DirectJob, Job, Refusal, RefusalForm, RunFault, RunRefusal, transact};
 use tn_text::Watched;
 
 /// What is written of a program's run by a schedule, whose text of picks spells these.
@@ -51,8 +51,9 @@ impl<A: Allocator + Copy> Job<A> for ExplainRequest<'_> {
         self.schedule.picks_of_text(alloc)
     }
 
-    fn refusal_outcome(&self, _alloc: A, refusal: Refusal) -> ExplainOutcome {
-        ExplainOutcome::Refused(RunRefusal::Text(refusal))
+    fn refusal_outcome(&self, _alloc: A, refusal: Refusal) -> (ExplainOutcome, RefusalForm) {
+        let outcome = ExplainOutcome::Refused(RunRefusal::Text(refusal));
+        (outcome, RefusalForm::Line)
     }
 
     fn succeeds(&self, outcome: &ExplainOutcome) -> bool {

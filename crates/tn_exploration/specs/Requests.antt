@@ -8,9 +8,13 @@ use Rattle.def_script.specs.Script.{Refusal, creations}
 use Rattle.def_run.specs.Round.{is_empty}
 use Rattle.def_departure.specs.Departures.{departure_text}
 use Rattle.tn_answers.specs.SearchAnswers.{form_seen, search_question_seen}
+use Rattle.tn_answers.specs.declared.form.AnswerForm.{AnswerForm}
+use Rattle.tn_answers.specs.declared.form.AnswerForm.TheVariants as answers
 use Rattle.tn_moves.specs.Schedules.{schedule_seen, AreMovesOf, HasPicks}
 use Rattle.tn_run.specs.Answers.{IsRefusedRun, text_refusal}
 use Rattle.tn_run.specs.Jobs.{JobView, failed_end}
+use Rattle.tn_run.specs.declared.refusal_form.RefusalForm.{RefusalForm}
+use Rattle.tn_run.specs.declared.refusal_form.RefusalForm.TheVariants.{Line, Json}
 use Rattle.tn_run.specs.declared.fault.RunFault.{RunFault}
 use Rattle.tn_search.specs.Sessions.{elements_at}
 use Rattle.tn_search.specs.States.{is_by_process}
@@ -117,11 +121,18 @@ is_exploration Unmet = true
 is_exploration NoSession = false
 is_exploration (Refused r) = false
 
+-- what is written for a refusal: an object of JSON where the answer is JSON
+abbrev pub refusals_in : AnswerForm → RefusalForm
+refusals_in answers.Plain = Line
+refusals_in answers.Summary = Line
+refusals_in answers.Json = Json
+
 -- the exploration that is asked for
 abbrev pub explore_by : ExploreRequest → JobView ExploreOutcome RunFault
 explore_by q = record {
   of_program = IsExploration q;
   refusal_in = explore_refusal;
+  refusal_form = refusals_in q.form;
   succeeds = is_exploration;
   has = λ outcome. Unit {0};
   reads = HasPicks (schedule_seen q.schedule);

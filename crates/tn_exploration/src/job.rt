@@ -4,16 +4,18 @@ ghost use Rattle.tn_program.specs.Views.{program_of};
 ghost use Rattle.tn_moves.specs.Schedules.{IsSpelledBy, schedule_seen};
 ghost use Rattle.tn_run.specs.Jobs.{Meets};
 ghost use Rattle.tn_exploration.specs.Requests.{IsExploration, IsExplorationFrom, explore_by, lacks_session};
+ghost use Rattle.tn_exploration.specs.Requests.{refusals_in};
 
 use crate::request::{ExploreOutcome, ExploreRequest};
 use crate::searches::put_groups;
 use crate::sessions::places_of;
 use std::alloc::{AllocError, Allocator};
 use std::io::{Read, Write};
+use tn_answers::AnswerForm;
 use tn_listing::PicksFault;
 use tn_moves::{MovesFault, moves_of_plan};
 use tn_program::Program;
-use tn_run::{DirectJob, Job, Refusal, RunFault, RunRefusal, transact};
+use tn_run::{DirectJob, Job, Refusal, RefusalForm, RunFault, RunRefusal, transact};
 use tn_text::Watched;
 
 /// Whether a session is asked for that the control list doesn't create: none of that name has a place.
@@ -71,6 +73,16 @@ fn outcome_of<A: Allocator + Copy>(
     }
 }
 
+/// What is written for a refusal where an answer has this form.
+fn refusal_form_in(form: AnswerForm) -> RefusalForm
+    ensures { result ≡ refusals_in form }
+{
+    match form {
+        AnswerForm::Plain | AnswerForm::Summary => RefusalForm::Line,
+        AnswerForm::Json => RefusalForm::Json,
+    }
+}
+
 impl<A: Allocator + Copy> Job<A> for ExploreRequest<'_> {
     ghost use Rattle.tn_moves.specs.Schedules.{IsSpelledBy, schedule_seen};
     ghost use Rattle.tn_exploration.specs.Requests.{explore_by};
@@ -87,8 +99,9 @@ impl<A: Allocator + Copy> Job<A> for ExploreRequest<'_> {
         self.schedule.picks_of_text(alloc)
     }
 
-    fn refusal_outcome(&self, _alloc: A, refusal: Refusal) -> ExploreOutcome {
-        ExploreOutcome::Refused(RunRefusal::Text(refusal))
+    fn refusal_outcome(&self, _alloc: A, refusal: Refusal) -> (ExploreOutcome, RefusalForm) {
+        let outcome = ExploreOutcome::Refused(RunRefusal::Text(refusal));
+        (outcome, refusal_form_in(self.form))
     }
 
     fn succeeds(&self, outcome: &ExploreOutcome) -> bool {
@@ -121,7 +134,7 @@ impl<A: Allocator + Copy> DirectJob<A> for ExploreRequest<'_> {
 }
 
 /// Explores all schedules of the script that the reader holds: writes the listings that they give, the words for the
-/// patterns, or whether the trace is possible; or the line of the refusal, or nothing where the moves are refused, as
+/// patterns, or whether the trace is possible; or the refusal in its form, or nothing where the moves are refused, as
 /// `tn_run::transact` says.
 pub fn explore<A: Allocator + Copy, R: Read, W: Write>(
     alloc: A,

@@ -19,6 +19,10 @@ AddsTokens r old new ts = OnOk r (GainsTokens old new ts)
 
 -- ---- the tokens of members
 
+-- of a member and its value
+abbrev pub json_member : List ℕ → Json → List Token
+json_member name v = key name ∷ json_tokens v
+
 abbrev pub text_member : List ℕ → List ℕ → List Token
 text_member name text = key name ∷ json_tokens (text_value text)
 

@@ -93,7 +93,7 @@ fn line_style(line: &[u8]) -> Style
 }
 
 /// Appends a text after the sequence of a style, and then the sequence of none.
-fn put_styled<A: Allocator>(
+fn put_in_sequences<A: Allocator>(
     out: &mut Vec<u8, A>,
     parameter: &[u8],
     text: &[u8],
@@ -118,11 +118,11 @@ fn put_in_style<A: Allocator>(
 {
     match style {
         Style::AsItIs => out.extend_from_slice(text),
-        Style::Bold => put_styled(out, b"1", text),
-        Style::Green => put_styled(out, b"32", text),
-        Style::Yellow => put_styled(out, b"33", text),
-        Style::Magenta => put_styled(out, b"35", text),
-        Style::Cyan => put_styled(out, b"36", text),
+        Style::Bold => put_in_sequences(out, b"1", text),
+        Style::Green => put_in_sequences(out, b"32", text),
+        Style::Yellow => put_in_sequences(out, b"33", text),
+        Style::Magenta => put_in_sequences(out, b"35", text),
+        Style::Cyan => put_in_sequences(out, b"36", text),
     }
 }
 

@@ -129,7 +129,7 @@ pub(crate) fn color<'a>(alloc: Global) -> Arg<'a>
     Arg::new(alloc, "color")
         .long("color")
         .value_name("WHEN")
-        .help("When trace messages are in colours: auto, on a\nterminal, always or never")
+        .help("When trace messages are in colours; auto:\non a terminal")
         .value_parser(WHENS)
         .action(ArgAction::Set)
 }

@@ -5,3 +5,4 @@ pub mod Loops
 pub mod Room
 pub mod Picks
 pub mod Happenings
+pub mod Owners

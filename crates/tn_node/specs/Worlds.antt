@@ -1,6 +1,8 @@
 -- What the code's processes stand for.
 use Rattle.std.specs.Prelude.{◌≡◌, ℕ, ◌<◌, Bool, List, map, slice_get, slice_set, Option, Some, None, Result, IfOk}
 use Rattle.std.specs.Option.{option_map}
+use Rattle.std.specs.Arc.{arc_value}
+use Rattle.std.specs.declared.sync.Arc.{Arc}
 use Rattle.def_node.specs.Process as process
 use Rattle.def_node.specs.Process.{act}
 use Rattle.def_node.specs.Node as node
@@ -18,8 +20,8 @@ use Rattle.tn_process.specs.declared.act.Act.{Act}
 use Rattle.tn_process.specs.declared.act.Act.TheVariants.{Waits, Continues, Sends, LinksTo, UnlinksFrom, Spawns, Exits}
 use Rattle.tn_node.specs.declared.world.World.{World}
 
-abbrev pub slot_of : {A : Type 0} → Option (Process A) → Option process.Process
-slot_of s = option_map process_seen s
+abbrev pub slot_of : {A : Type 0} → Option (Arc (Process A) A) → Option process.Process
+slot_of s = option_map (λ owner. process_seen (arc_value owner)) s
 
 abbrev pub world_of : {A : Type 0} → World A → node.World
 world_of w = record { slots = map slot_of w.slots.items }

@@ -5,6 +5,7 @@ use crate::world::World;
 use std::alloc::{AllocError, Allocator};
 use std::hash::{FoldHasher, Hasher};
 use std::marker::Model;
+use std::sync::Arc;
 use tn_process::{Functions, Process, StatePart};
 use tn_program::Program;
 
@@ -196,8 +197,8 @@ impl<A: Allocator + Copy> Node<A> {
     ghost use Rattle.std.specs.Prelude.{◌≡◌, ◌↔◌, IfOk, IsTrue};
     ghost use Rattle.tn_node.specs.Nodes.{state_in};
 
-    /// The same node once more. The functions of the program have one owner more, and so has each term that a
-    /// variable or a mailbox holds.
+    /// The same node once more. The functions of the program have one owner more, and so has each process: it is
+    /// copied once one of the nodes changes it.
     ///
     /// # Errors
     ///
@@ -237,7 +238,7 @@ impl<A: Allocator + Copy> Node<A> {
     ghost use Rattle.tn_node.specs.Worlds.{slot_of};
 
     /// The processes that were started, from pid 100 on, with None where one has exited. None of a node that is spent.
-    pub fn processes(&self) -> Option<&[Option<Process<A>>]>
+    pub fn processes(&self) -> Option<&[Option<Arc<Process<A>, A>>]>
         ensures { option_map (λ ss. map slot_of ss.now) result ≡ slots_in self.now }
     {
         if self.is_spent {

@@ -53,7 +53,7 @@ impl<A: Allocator + Copy> World<A> {
             return None;
         }
         match &self.slots[place] {
-            Some(process) => Some(process),
+            Some(owner) => Some(&**owner),
             None => None,
         }
     }

@@ -3,15 +3,17 @@ ghost use Rattle.std.specs.Prelude.{◌≤◌, length};
 
 use crate::events::{exit_events, start_events};
 use std::alloc::{AllocError, Allocator};
+use std::sync::Arc;
 use tn_flags::Event;
 use tn_process::{Act, Functions, Process};
 use tn_script::{Entry, copy_entry};
 use tn_term::{FIRST_PID, PROCESSES, SharedTerm, Term};
 
-/// The processes from pid 100 on; none where one has exited.
+/// The processes from pid 100 on; none where one has exited. A process may have several owners: it is copied before
+/// one of them changes it.
 #[derive(Drop)]
 pub struct World<A: Allocator> {
-    pub(crate) slots: Vec<Option<Process<A>>, A>,
+    pub(crate) slots: Vec<Option<Arc<Process<A>, A>>, A>,
     ghost few: { length slots.items ≤ 64 },
 }
 
@@ -37,7 +39,8 @@ impl<A: Allocator + Copy> World<A> {
         for entry in entries {
             let copy = copy_entry(alloc, entry)?;
             let process = Process::new(alloc, copy);
-            slots.push(Some(process))?;
+            let owner = Arc::new(alloc, process)?;
+            slots.push(Some(owner))?;
         }
         Ok(World { slots })
     }
@@ -89,7 +92,8 @@ impl<A: Allocator + Copy> World<A> {
         ensures { IfOk result (λ _. ChangesAt self.old self.new place (with_message (shared_tree message))) }
     {
         match &mut self.slots[place] {
-            Some(process) => {
+            Some(owner) => {
+                let process = Arc::make_mut(owner)?;
                 process.put_message(message)?;
                 Ok(())
             }
@@ -98,27 +102,35 @@ impl<A: Allocator + Copy> World<A> {
     }
 
     /// The process at this place has a link to the pid from now on, or has none.
-    fn set_link(&mut self, place: usize, pid: u32, linked: bool)
+    fn set_link(&mut self, place: usize, pid: u32, linked: bool) -> Result<(), AllocError>
         requires place_within { place < length self.old.slots.items }
         requires low { 100 ≤ pid }
         requires high { pid ≤ 163 }
-        ensures change { ChangesAt self.old self.new place (with_link pid linked) }
+        ensures change { IfOk result (λ _. ChangesAt self.old self.new place (with_link pid linked)) }
         ensures size { length self.new.slots.items ≡ length self.old.slots.items }
     {
         match &mut self.slots[place] {
-            Some(process) => process.set_link(pid, linked),
-            None => {}
+            Some(owner) => {
+                let process = Arc::make_mut(owner)?;
+                process.set_link(pid, linked);
+                Ok(())
+            }
+            None => Ok(()),
         }
     }
 
     /// The process at this place gets an exit signal; where none is there, nothing changes.
-    fn put_signal(&mut self, place: usize, reason: Term<A>)
+    fn put_signal(&mut self, place: usize, reason: Term<A>) -> Result<(), AllocError>
         requires { place < length self.old.slots.items }
-        ensures { ChangesAt self.old self.new place (with_signal (tree_of reason)) }
+        ensures { IfOk result (λ _. ChangesAt self.old self.new place (with_signal (tree_of reason))) }
     {
         match &mut self.slots[place] {
-            Some(process) => process.put_signal(reason),
-            None => {}
+            Some(owner) => {
+                let process = Arc::make_mut(owner)?;
+                process.put_signal(reason);
+                Ok(())
+            }
+            None => Ok(()),
         }
     }
 
@@ -131,7 +143,8 @@ impl<A: Allocator + Copy> World<A> {
         ensures size { length self.new.slots.items ≡ length self.old.slots.items }
     {
         match &mut self.slots[place] {
-            Some(process) => {
+            Some(owner) => {
+                let process = Arc::make_mut(owner)?;
                 process.part(alloc, pid, reason)?;
                 Ok(())
             }
@@ -199,7 +212,7 @@ impl<A: Allocator + Copy> World<A> {
         match partner {
             None => {
                 let reason = Term::word(alloc, "noproc")?;
-                self.put_signal(place, reason);
+                self.put_signal(place, reason)?;
                 Ok(events)
             }
             Some(partner) => {
@@ -207,8 +220,8 @@ impl<A: Allocator + Copy> World<A> {
                     pid: other,
                     other: pid,
                 })?;
-                self.set_link(place, other, true);
-                self.set_link(partner, pid, true);
+                self.set_link(place, other, true)?;
+                self.set_link(partner, pid, true)?;
                 Ok(events)
             }
         }
@@ -260,11 +273,11 @@ impl<A: Allocator + Copy> World<A> {
             pid: other,
             other: pid,
         })?;
-        self.set_link(place, other, false);
+        self.set_link(place, other, false)?;
         match partner {
             None => Ok(events),
             Some(partner) => {
-                self.set_link(partner, pid, false);
+                self.set_link(partner, pid, false)?;
                 Ok(events)
             }
         }
@@ -364,7 +377,8 @@ impl<A: Allocator + Copy> World<A> {
     {
         let events = start_events(alloc, pid, child, &entry)?;
         let process = Process::new(alloc, entry);
-        self.slots.push(Some(process))?;
+        let owner = Arc::new(alloc, process)?;
+        self.slots.push(Some(owner))?;
         Ok(events)
     }
 
@@ -393,7 +407,10 @@ impl<A: Allocator + Copy> World<A> {
         ensures acts { IfOk result (ActsAt self.old self.new functions.now place pid child) }
     {
         match &mut self.slots[place] {
-            Some(process) => Ok(process.act(alloc, functions, pid, child)?),
+            Some(owner) => {
+                let process = Arc::make_mut(owner)?;
+                Ok(process.act(alloc, functions, pid, child)?)
+            }
             None => Ok(Act::Waits),
         }
     }

@@ -1,15 +1,10 @@
 -- The tokens of JSON that are written of a row of a picture.
-use Rattle.std.specs.Prelude.{ℕ, List, ◌∷◌, ◌++◌, codes}
-use Rattle.json.specs.Json.{Json}
-use Rattle.json.specs.Token.{Token, key}
-use Rattle.json.specs.Tree.{json_tokens}
+use Rattle.std.specs.Prelude.{List, ◌++◌, codes}
+use Rattle.json.specs.Token.{Token}
 use Rattle.def_formats.specs.JsonRows.{text_value, number_value}
 use Rattle.def_picture.specs.Picture.{Life, Shape}
 use Rattle.def_picture.specs.JsonPicture.{shape_word, shape_process, shape_target, shape_depth, pid_value, value_or_null}
-
--- of a member and its value
-abbrev pub json_member : List ℕ → Json → List Token
-json_member name v = key name ∷ json_tokens v
+use Rattle.tn_formats.specs.Tokens.{json_member}
 
 -- of the shape of a row
 abbrev pub shape_tokens : Shape → List Token

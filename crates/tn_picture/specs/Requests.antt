@@ -9,6 +9,7 @@ use Rattle.def_picture.specs.JsonPicture.{picture_json}
 use Rattle.tn_moves.specs.Schedules.{schedule_seen, ArePicks, HasPicks}
 use Rattle.tn_run.specs.Answers.{IsRefusedRun, text_refusal}
 use Rattle.tn_run.specs.Jobs.{JobView, failed_end}
+use Rattle.tn_run.specs.declared.refusal_form.RefusalForm.TheVariants.{Nothing}
 use Rattle.tn_run.specs.declared.fault.RunFault.{RunFault}
 use Rattle.tn_picture.specs.declared.request.PictureFormat.{PictureFormat}
 use Rattle.tn_picture.specs.declared.request.PictureFormat.TheVariants.{Svg, Plain, Json}
@@ -52,6 +53,7 @@ abbrev pub draw_by : DrawRequest → JobView DrawOutcome RunFault
 draw_by q = record {
   of_program = IsDrawn q;
   refusal_in = draw_refusal;
+  refusal_form = Nothing;
   succeeds = is_drawing;
   has = λ outcome. Unit {0};
   reads = HasPicks (schedule_seen q.schedule);

@@ -13,7 +13,7 @@ use std::io::{Read, Write};
 use tn_listing::PicksFault;
 use tn_moves::{MovesFault, Plan};
 use tn_program::Program;
-use tn_run::{DirectJob, Job, Refusal, RunFault, RunRefusal, transact};
+use tn_run::{DirectJob, Job, Refusal, RefusalForm, RunFault, RunRefusal, transact};
 use tn_text::Watched;
 
 /// The text of the picture of the program's run by a plan.
@@ -73,8 +73,9 @@ impl<A: Allocator + Copy> Job<A> for DrawRequest<'_> {
         self.schedule.picks_of_text(alloc)
     }
 
-    fn refusal_outcome(&self, _alloc: A, refusal: Refusal) -> DrawOutcome {
-        DrawOutcome::Refused(RunRefusal::Text(refusal))
+    fn refusal_outcome(&self, _alloc: A, refusal: Refusal) -> (DrawOutcome, RefusalForm) {
+        let outcome = DrawOutcome::Refused(RunRefusal::Text(refusal));
+        (outcome, RefusalForm::Nothing)
     }
 
     fn succeeds(&self, outcome: &DrawOutcome) -> bool {
@@ -103,8 +104,8 @@ impl<A: Allocator + Copy> DirectJob<A> for DrawRequest<'_> {
     }
 }
 
-/// Draws the run of the script that the reader holds: writes its picture, or the line of the refusal, or nothing where
-/// the moves are refused, as `tn_run::transact` says. Bad picks are found before anything is read.
+/// Draws the run of the script that the reader holds: writes its picture, or nothing where the script, the picks or the
+/// moves are refused, as `tn_run::transact` says. Bad picks are found before anything is read.
 pub fn draw<A: Allocator + Copy, R: Read, W: Write>(
     alloc: A,
     reader: &mut Watched<R>,

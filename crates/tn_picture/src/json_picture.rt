@@ -6,8 +6,8 @@ ghost use Rattle.def_formats.specs.JsonRows.{items_from, number_value};
 ghost use Rattle.def_picture.specs.JsonPicture.{life_line, name_line, pid_value, picture_json, report_value, row_line};
 ghost use Rattle.def_picture.specs.JsonPicture.{value_or_null};
 ghost use Rattle.def_picture.specs.Templates.{each_numbered};
-ghost use Rattle.tn_formats.specs.Tokens.{AddsTokens};
-ghost use Rattle.tn_picture.specs.JsonTokens.{json_member, shape_tokens, span_tokens};
+ghost use Rattle.tn_formats.specs.Tokens.{AddsTokens, json_member};
+ghost use Rattle.tn_picture.specs.JsonTokens.{shape_tokens, span_tokens};
 ghost use Rattle.tn_picture.specs.Views.{life_seen, picture_row_seen, picture_seen, report_seen, row_shape_seen};
 
 use crate::life::Life;

@@ -286,11 +286,48 @@ module _ (T : RattleType) (g : Ghosts T.Denot) (s : IsSend T) (f : Frees g g.dea
   process_field_send : IsSend (process.the_field T g).row
   process_field_send = search (sendable, crosses, entry_send, entry_field_send, frame_send, frame_field_send, term_send, term_field_send, shared_send, shared_field_send, process_send) depth 40 fits 3000 parts 0
 
+  -- a process with several owners, of which each node reads it
+  shared_sync : IsSync (shared.the_row T g)
+  shared_sync = search (sendable, crosses, term_send, term_field_send, term_sync, term_field_sync) depth 40 fits 3000 parts 0
+
+  shared_field_sync : IsSync (shared.the_field T g).row
+  shared_field_sync = search (sendable, crosses, term_send, term_field_send, term_sync, term_field_sync, shared_sync) depth 40 fits 3000 parts 0
+
+  entry_sync : IsSync (entry.the_row T g)
+  entry_sync = search (sendable, crosses, atom_sync, atom_field_sync, arguments_sync, arguments_field_sync) depth 40 fits 3000 parts 0
+
+  entry_field_sync : IsSync (entry.the_field T g).row
+  entry_field_sync = search (sendable, crosses, atom_sync, atom_field_sync, arguments_sync, arguments_field_sync, entry_sync) depth 40 fits 3000 parts 0
+
+  binding_sync : IsSync (binding.the_row T g)
+  binding_sync = search (sendable, crosses, atom_send, atom_field_send, atom_sync, atom_field_sync, shared_sync, shared_field_sync) depth 40 fits 3000 parts 0
+
+  binding_field_sync : IsSync (binding.the_field T g).row
+  binding_field_sync = search (sendable, crosses, atom_send, atom_field_send, atom_sync, atom_field_sync, shared_sync, shared_field_sync, binding_sync) depth 40 fits 3000 parts 0
+
+  env_sync : IsSync (env.the_row T g)
+  env_sync = search (sendable, crosses, binding_sync, binding_field_sync, frame_names_send, frame_names_field_send, frame_names_sync, frame_names_field_sync) depth 40 fits 3000 parts 0
+
+  env_field_sync : IsSync (env.the_field T g).row
+  env_field_sync = search (sendable, crosses, binding_sync, binding_field_sync, frame_names_send, frame_names_field_send, frame_names_sync, frame_names_field_sync, env_sync) depth 40 fits 3000 parts 0
+
+  frame_sync : IsSync (frame.the_row T g)
+  frame_sync = search (sendable, crosses, env_sync, env_field_sync, atom_sync, atom_field_sync) depth 40 fits 3000 parts 0
+
+  frame_field_sync : IsSync (frame.the_field T g).row
+  frame_field_sync = search (sendable, crosses, env_sync, env_field_sync, atom_sync, atom_field_sync, frame_sync) depth 40 fits 3000 parts 0
+
+  process_sync : IsSync (process.the_row T g)
+  process_sync = search (sendable, crosses, entry_sync, entry_field_sync, frame_sync, frame_field_sync, term_sync, term_field_sync, shared_sync, shared_field_sync) depth 40 fits 3000 parts 0
+
+  process_field_sync : IsSync (process.the_field T g).row
+  process_field_sync = search (sendable, crosses, entry_sync, entry_field_sync, frame_sync, frame_field_sync, term_sync, term_field_sync, shared_sync, shared_field_sync, process_sync) depth 40 fits 3000 parts 0
+
   world_send : IsSend (world.the_row T g)
-  world_send = search (sendable, crosses, process_send, process_field_send) depth 40 fits 3000 parts 0
+  world_send = search (sendable, crosses, process_send, process_field_send, process_sync, process_field_sync) depth 40 fits 3000 parts 0
 
   world_field_send : IsSend (world.the_field T g).row
-  world_field_send = search (sendable, crosses, process_send, process_field_send, world_send) depth 40 fits 3000 parts 0
+  world_field_send = search (sendable, crosses, process_send, process_field_send, process_sync, process_field_sync, world_send) depth 40 fits 3000 parts 0
 
   node_state_send : IsSend (node_state.the_row T g)
   node_state_send = search (sendable, crosses, functions_send, functions_field_send, world_send, world_field_send) depth 40 fits 3000 parts 0

@@ -9,8 +9,9 @@
 //! leaves frames down to the newest that a catch step called; whatever concerns another process comes out
 //! as an act, for the node to carry out; and what is known of the next step before it is made is what
 //! def_outlook says of it. A `StatePart` once more stands for the same, and its values and messages have
-//! one owner more; `same` says whether two stand for the same; nothing is promised of a fingerprint. Between two
-//! steps its frames, mailbox, links and pending signal are seen as they are.
+//! one owner more; of a process in an `Arc` nothing is copied, and a process that is cloned stands for the same;
+//! `same` says whether two stand for the same; nothing is promised of a fingerprint. Between two steps its frames,
+//! mailbox, links and pending signal are seen as they are.
 #![tactic(auto)]
 
 mod act;

@@ -259,3 +259,12 @@ impl<A: Allocator + Copy> StatePart<A> for Process<A> {
         add_links(&self.links, hasher);
     }
 }
+
+/// A process once more stands for the same.
+impl<A: Allocator + Copy> Clone for Process<A> {
+    ghost is_clone = { λ one other. process_seen other ≡ process_seen one };
+
+    fn clone(&self) -> Result<Self, AllocError> {
+        self.share(*self.mailbox.allocator())
+    }
+}

@@ -5,6 +5,7 @@ ghost use Rattle.std.specs.Option.{option_map};
 use std::alloc::{AllocError, Allocator};
 use std::collections::VecDeque;
 use std::hash::{FoldHasher, Hasher};
+use std::sync::Arc;
 
 /// A part of the state of a node, by what it stands for: a value, a process, all processes.
 pub trait StatePart<A: Allocator>: Sized + Drop {
@@ -161,5 +162,27 @@ impl<A: Allocator + Copy, P: StatePart<A>> StatePart<A> for VecDeque<P, A> {
         for i in 0..self.len() {
             self[i].add_to(hasher);
         }
+    }
+}
+
+impl<A: Allocator + Copy, P: StatePart<A>> StatePart<A> for Arc<P, A> {
+    ghost use Rattle.std.specs.Arc.{arc_value};
+
+    ghost Seen = { P.Seen };
+
+    ghost seen = { λ owner. P.seen (arc_value owner) };
+
+    fn share(&self, _: A) -> Result<Self, AllocError> {
+        Arc::try_clone(self)
+    }
+
+    fn same(&self, other: &Self) -> bool {
+        let (one, other): (&P, &P) = (&**self, &**other);
+        one.same(other)
+    }
+
+    fn add_to(&self, hasher: &mut FoldHasher) {
+        let part: &P = &**self;
+        part.add_to(hasher);
     }
 }

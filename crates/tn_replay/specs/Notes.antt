@@ -10,6 +10,7 @@ use Rattle.def_run.specs.Listing.{program_output}
 use Rattle.tn_moves.specs.Schedules.{schedule_seen, ArePicks, HasPicks}
 use Rattle.tn_run.specs.Answers.{IsRefusedRun, text_refusal, run_by}
 use Rattle.tn_run.specs.Jobs.{JobView, Gives, failed_end}
+use Rattle.tn_run.specs.declared.refusal_form.RefusalForm.TheVariants.{Line}
 use Rattle.tn_run.specs.declared.outcome.Outcome.{Outcome}
 use Rattle.tn_run.specs.declared.outcome.Outcome.TheVariants as run
 use Rattle.tn_run.specs.declared.fault.RunFault.{RunFault}
@@ -65,6 +66,7 @@ abbrev pub replay_by : Replay → JobView ReplayOutcome RunFault
 replay_by q = record {
   of_program = IsReplayed q;
   refusal_in = replay_refusal;
+  refusal_form = Line;
   succeeds = is_listing;
   has = λ outcome. Unit {0};
   reads = HasPicks (schedule_seen q.schedule);

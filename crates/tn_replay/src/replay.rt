@@ -18,7 +18,7 @@ use std::alloc::{AllocError, Allocator};
 use tn_listing::{PicksFault, transcript_output};
 use tn_moves::{MovesFault, Plan, Schedule, transcript_of_plan};
 use tn_program::Program;
-use tn_run::{DirectJob, Job, Refusal, RunFault, RunRefusal};
+use tn_run::{DirectJob, Job, Refusal, RefusalForm, RunFault, RunRefusal};
 use tn_trace::{Transcript, TranscriptFault};
 
 /// A run by a schedule, with its notes or without.
@@ -169,8 +169,9 @@ impl<A: Allocator + Copy> Job<A> for Replay<'_> {
         self.schedule.picks_of_text(alloc)
     }
 
-    fn refusal_outcome(&self, _alloc: A, refusal: Refusal) -> ReplayOutcome {
-        ReplayOutcome::Refused(RunRefusal::Text(refusal))
+    fn refusal_outcome(&self, _alloc: A, refusal: Refusal) -> (ReplayOutcome, RefusalForm) {
+        let outcome = ReplayOutcome::Refused(RunRefusal::Text(refusal));
+        (outcome, RefusalForm::Line)
     }
 
     fn succeeds(&self, outcome: &ReplayOutcome) -> bool {

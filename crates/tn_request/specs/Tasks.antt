@@ -8,6 +8,8 @@ use Rattle.tn_formats.specs.declared.format.Format.{Format}
 use Rattle.tn_moves.specs.Schedules.{ScheduleView, HasPicks, OfPicks, schedule_seen}
 use Rattle.tn_run.specs.Answers.{IsRefusedRun}
 use Rattle.tn_run.specs.Jobs.{JobView, failed_end}
+use Rattle.tn_run.specs.declared.refusal_form.RefusalForm.{RefusalForm}
+use Rattle.tn_run.specs.declared.refusal_form.RefusalForm.TheVariants.{Line, Nothing}
 use Rattle.tn_run.specs.declared.fault.RunFault.{RunFault}
 use Rattle.tn_replay.specs.Notes.{IsListedBy, is_listing, replay_refusal}
 use Rattle.tn_replay.specs.declared.replay.Replay.{Replay}
@@ -132,10 +134,18 @@ is_request_success (outcomes.Explain outcome) = is_account outcome
 is_request_success (outcomes.State outcome) = is_state outcome
 is_request_success (outcomes.Draw outcome) = is_drawing outcome
 
+-- what is written for a refusal: nothing in place of a picture
+abbrev pub task_refusals : Task → RefusalForm
+task_refusals (listing_task a has_notes quiet) = Line
+task_refusals (account_task a q) = Line
+task_refusals (state_task a q) = Line
+task_refusals (drawing_task a format) = Nothing
+
 abbrev pub task_job : Task → JobView RequestOutcome RunFault
 task_job task = record {
   of_program = IsDoneBy task;
   refusal_in = request_refusal;
+  refusal_form = task_refusals task;
   succeeds = is_request_success;
   has = λ outcome. Unit {0};
   reads = HasPicks (task_schedule task);

@@ -20,7 +20,7 @@ use tn_notice::CommandFault;
 use tn_picture::{DrawOutcome, DrawRequest};
 use tn_program::Program;
 use tn_replay::{Replay, ReplayOutcome};
-use tn_run::{Denial, DirectJob, Job, Refusal, RunFault};
+use tn_run::{Denial, DirectJob, Job, Refusal, RefusalForm, RunFault};
 use tn_state::{StateOutcome, StateRequest};
 
 /// The job that a request for a run by a schedule asks for.
@@ -210,14 +210,24 @@ impl<A: Allocator + Copy> Job<A> for RequestJob<'_> {
         }
     }
 
-    fn refusal_outcome(&self, alloc: A, refusal: Refusal) -> RequestOutcome {
+    fn refusal_outcome(&self, alloc: A, refusal: Refusal) -> (RequestOutcome, RefusalForm) {
         match self {
-            RequestJob::Replay(job) => RequestOutcome::Replay(job.refusal_outcome(alloc, refusal)),
-            RequestJob::Explain(job) => {
-                RequestOutcome::Explain(job.refusal_outcome(alloc, refusal))
+            RequestJob::Replay(job) => {
+                let (outcome, form) = job.refusal_outcome(alloc, refusal);
+                (RequestOutcome::Replay(outcome), form)
             }
-            RequestJob::State(job) => RequestOutcome::State(job.refusal_outcome(alloc, refusal)),
-            RequestJob::Draw(job) => RequestOutcome::Draw(job.refusal_outcome(alloc, refusal)),
+            RequestJob::Explain(job) => {
+                let (outcome, form) = job.refusal_outcome(alloc, refusal);
+                (RequestOutcome::Explain(outcome), form)
+            }
+            RequestJob::State(job) => {
+                let (outcome, form) = job.refusal_outcome(alloc, refusal);
+                (RequestOutcome::State(outcome), form)
+            }
+            RequestJob::Draw(job) => {
+                let (outcome, form) = job.refusal_outcome(alloc, refusal);
+                (RequestOutcome::Draw(outcome), form)
+            }
         }
     }
 

@@ -3,13 +3,13 @@ use Rattle.std.proofs.Common.{◌≡◌, ◌≢◌, ◌∙◌, ℕ, ◌≤◌, L
 use Rattle.std.specs.declared.vec.Vec.{Vec}
 use Rattle.def_script.specs.Program as defined
 use Rattle.def_script.specs.Script.{IsScript}
-use Rattle.def_run.specs.Output.{refusal_text}
 use Rattle.tn_text.specs.Watch.{watched_inner, has_failed}
 use Rattle.tn_text.specs.declared.watched.Watched.{Watched}
 use Rattle.tn_program.specs.Views.{program_of}
 use Rattle.tn_program.specs.declared.parts.Program.{Program}
 use Rattle.tn_run.specs.Ends.{TakesFront, TakesText, TookText}
 use Rattle.tn_run.specs.Jobs.{FailedEnd, Gives, IsJobRefusal, IsOfNoEnd, IsProgramAnswer, IsReading, IsReadingOf, JobView, OfScript, Prepares, ReadsScript, no_end_failed, reader_failed, writer_failed}
+use Rattle.tn_run.specs.RefusalForms.{IsRefusalOutput, text_of_refusal}
 use Rattle.tn_run.specs.declared.job.Reading.{Reading}
 use Rattle.tn_run.specs.declared.job.Reading.TheVariants.{Accepted, Refused}
 
@@ -34,7 +34,7 @@ if_some_by f (Some x) h = f x h
 
 gives_program : {O F : Type 0} (job : JobView O F) (bytes : List ℕ) (p : defined.Program) (o : O) (output : List ℕ) → IsProgramAnswer job p o output → IsScript bytes p → Gives job bytes o output
 gives_program job bytes p o output h accepted =
-    subst (λ r. MatchOption r (OfScript bytes (λ q. job.of_program q o output)) (λ s. IsJobRefusal job.reads bytes s × (output ≡ refusal_text s))) (sym h.accepted) (record { program = p; accepted = accepted; output = h.given })
+    subst (λ r. MatchOption r (OfScript bytes (λ q. job.of_program q o output)) (λ s. IsJobRefusal job.reads bytes s × IsRefusalOutput job.refusal_form (text_of_refusal s bytes) s output)) (sym h.accepted) (record { program = p; accepted = accepted; output = h.given })
 
 module _ {R O F A : Type 0} (job : JobView O F) (takes : List ℕ → Type 0) (known : R → Option (List ℕ)) (reader reader' : Watched R) where
   reading_whole : (text : List ℕ) (r : Reading O A) → TookText known reader reader' text → length text ≤ 1048576 → IsReadingOf job takes text r → IsReading job takes (known (watched_inner reader)) r

@@ -8,6 +8,7 @@ use Rattle.tn_refusal.specs.Refusals.{refusal_of}
 use Rattle.tn_moves.specs.Schedules.{ScheduleView, by_workers, schedule_seen, ArePicks, AreBadMoves, HasPicks}
 use Rattle.tn_moves.specs.declared.schedule.Schedule.{Schedule}
 use Rattle.tn_run.specs.Jobs.{JobView, FailedEnd, failed_end, no_end_failed}
+use Rattle.tn_run.specs.declared.refusal_form.RefusalForm.TheVariants.{Line}
 use Rattle.tn_run.specs.declared.outcome.Outcome.{Outcome}
 use Rattle.tn_run.specs.declared.outcome.Outcome.TheVariants.{Listed, Refused}
 use Rattle.tn_run.specs.declared.outcome.RunRefusal.{RunRefusal}
@@ -50,7 +51,7 @@ is_listed (Refused r) = false
 
 -- the run by a schedule
 abbrev pub run_for : ScheduleView → JobView Outcome RunFault
-run_for a = record { of_program = IsListedOutput a; refusal_in = outcome_refusal; succeeds = is_listed; has = λ outcome. Unit {0}; reads = HasPicks a; end_of = failed_end }
+run_for a = record { of_program = IsListedOutput a; refusal_in = outcome_refusal; refusal_form = Line; succeeds = is_listed; has = λ outcome. Unit {0}; reads = HasPicks a; end_of = failed_end }
 
 abbrev pub run_by : Schedule → JobView Outcome RunFault
 run_by schedule = run_for (schedule_seen schedule)
@@ -70,6 +71,7 @@ abbrev pub live_run : JobView Ran LiveFault
 live_run = record {
   of_program = λ p ran output. IsListedOutput (by_workers ran.picks.items) p ran.outcome output;
   refusal_in = λ ran. outcome_refusal ran.outcome;
+  refusal_form = Line;
   succeeds = λ ran. is_listed ran.outcome;
   has = λ ran. HasPicksWhereListed ran.outcome ran.picks.items;
   reads = Unit {0};

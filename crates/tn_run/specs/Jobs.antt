@@ -1,16 +1,18 @@
 -- What a job is, and what doing it says of a reader, a writer and an answer (own).
--- Depends on the known bytes of readers and writers, and on which scripts are accepted or refused.
+-- Depends on the known bytes of readers and writers, on which scripts are accepted or refused, and on what is written
+-- for a refusal.
 use Rattle.std.specs.Prelude.{◌≡◌, ◌≢◌, ◌<◌, ℕ, Bool, true, List, length, Option, Some, None, IfSome, MatchOption, Result, IfOk, IfErr, OnOk}
 use Rattle.std.specs.Io.KnownBytes.{Appends}
 use Rattle.std.specs.declared.vec.Vec.{Vec}
 use Rattle.def_script.specs.Program.{Program}
 use Rattle.def_script.specs.Script as script
 use Rattle.def_script.specs.Script.{Refusal, IsScript, IsRefused}
-use Rattle.def_run.specs.Output.{refusal_text}
 use Rattle.tn_text.specs.Watch.{watched_inner, has_failed, is_flushed}
 use Rattle.tn_text.specs.declared.watched.Watched.{Watched}
 use Rattle.tn_run.specs.Ends.{TakesFront, TookText, WritesFront}
 use Rattle.tn_program.specs.Views.{program_of}
+use Rattle.tn_run.specs.RefusalForms.{IsRefusalOutput, text_of_refusal}
+use Rattle.tn_run.specs.declared.refusal_form.RefusalForm.{RefusalForm}
 use Rattle.tn_run.specs.declared.job.Reading.{Reading}
 use Rattle.tn_run.specs.declared.job.Reading.TheVariants.{Accepted, Refused}
 use Rattle.tn_run.specs.declared.fault.RunFault.{RunFault}
@@ -28,11 +30,12 @@ failed_end (Write n) = writer_failed n
 failed_end OutOfMemory = no_end_failed
 
 -- a job: the outcome and the output that it gives for the program of an accepted script, the refusal that an outcome
--- is, whether an outcome is what was asked for, what else each outcome has, whether the job reads the script at all, and
--- of which end its faults are
+-- is, what is written for a refusal, whether an outcome is what was asked for, what else each outcome has, whether the
+-- job reads the script at all, and of which end its faults are
 pub record JobView (O F : Type 0) : Type 1 where
   pub of_program : Program → O → List ℕ → Type 0
   pub refusal_in : O → Option Refusal
+  pub refusal_form : RefusalForm
   pub succeeds : O → Bool
   pub has : O → Type 0
   pub reads : Type 0
@@ -52,7 +55,8 @@ IsJobRefusal reads bytes r = reads × IsRefused bytes r
 -- the outcome and the output that the job gives for these bytes
 abbrev pub Gives : {O F : Type 0} → JobView O F → List ℕ → O → List ℕ → Type 0
 Gives job bytes outcome output =
-    MatchOption (job.refusal_in outcome) (OfScript bytes (λ p. job.of_program p outcome output)) (λ r. IsJobRefusal job.reads bytes r × (output ≡ refusal_text r))
+    MatchOption (job.refusal_in outcome) (OfScript bytes (λ p. job.of_program p outcome output))
+    (λ r. IsJobRefusal job.reads bytes r × IsRefusalOutput job.refusal_form (text_of_refusal r bytes) r output)
 
 -- neither the reader nor the writer failed
 abbrev pub IsOfNoEnd : {O F : Type 0} → JobView O F → F → Type 0
@@ -137,27 +141,29 @@ abbrev pub IsAnswerWithin : {O F A : Type 0} → (most : ℕ) → JobView O F �
 IsAnswerWithin most job p None = GivesMore most job p
 IsAnswerWithin most job p (Some answer) = IsProgramAnswer job p answer.0 answer.1.items
 
--- the refusal as an outcome
-pub record IsRefusalOutcome {O F : Type 0} (job : JobView O F) (r : Refusal) (outcome : O) : Type 0 where
+-- the refusal as an outcome, and the form of what is written for it
+pub record IsRefusalOutcome {O F : Type 0} (job : JobView O F) (r : Refusal) (outcome : O) (form : RefusalForm) : Type 0 where
   pub refused : job.refusal_in outcome ≡ Some r
   pub outcome_has : job.has outcome
+  pub form_is : form ≡ job.refusal_form
 
 -- ---- what is read
 
--- the refusal was found
-abbrev pub IsRefusalReading : {O F A : Type 0} → JobView O F → Refusal → Reading O A → Type 0
-IsRefusalReading job r (Accepted picks program) = ⊥
-IsRefusalReading job r (Refused outcome line) = IsRefusalOutcome job r outcome × (line.items ≡ refusal_text r)
+-- the refusal of these bytes was found
+abbrev pub IsRefusalReading : {O F A : Type 0} → JobView O F → (bytes : List ℕ) → Refusal → Reading O A → Type 0
+IsRefusalReading job bytes r (Accepted picks program) = ⊥
+IsRefusalReading job bytes r (Refused outcome text) =
+    (job.refusal_in outcome ≡ Some r) × job.has outcome × IsRefusalOutput job.refusal_form (text_of_refusal r bytes) r text.items
 
 -- what these bytes come to: the program that they are, with picks that the job takes, or what the job gives for their refusal
 abbrev pub IsReadingOf : {O F A : Type 0} → JobView O F → (List ℕ → Type 0) → List ℕ → Reading O A → Type 0
 IsReadingOf job takes bytes (Accepted picks program) = takes picks.items × IsScript bytes (program_of program)
-IsReadingOf job takes bytes (Refused outcome line) = job.has outcome × Gives job bytes outcome line.items
+IsReadingOf job takes bytes (Refused outcome text) = job.has outcome × Gives job bytes outcome text.items
 
 -- the same, where the reader's bytes are known
 abbrev pub IsReading : {O F A : Type 0} → JobView O F → (List ℕ → Type 0) → Option (List ℕ) → Reading O A → Type 0
 IsReading job takes bytes (Accepted picks program) = takes picks.items × IfSome bytes (λ bs. IsScript bs (program_of program))
-IsReading job takes bytes (Refused outcome line) = job.has outcome × IfSome bytes (λ bs. Gives job bs outcome line.items)
+IsReading job takes bytes (Refused outcome text) = job.has outcome × IfSome bytes (λ bs. Gives job bs outcome text.items)
 
 -- the picks and the reader were read, and this is what they come to
 pub record ReadsScript {R O F A : Type 0} (job : JobView O F) (takes : List ℕ → Type 0) (known : R → Option (List ℕ)) (reader reader' : Watched R) (result : Result (Reading O A) F) : Type 0 where

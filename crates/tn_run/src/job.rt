@@ -6,12 +6,13 @@ ghost use Rattle.tn_run.specs.Jobs.{IsOfNoEnd, IsReadingOf, IsRefusalReading, Me
 use crate::acceptance::accept;
 use crate::ends::{read_text, write_output};
 use crate::fault::RunFault;
+use crate::refusal_form::{RefusalForm, refusal_output};
 use std::alloc::Allocator;
 use std::fmt::Display;
 use std::io::{Read, Write};
 use tn_listing::PicksFault;
 use tn_program::Program;
-use tn_refusal::{Denial, Refusal, refusal_bytes};
+use tn_refusal::{Denial, Refusal};
 use tn_text::{MAX_TEXT, Watched};
 
 /// Something that is done with a script: it has an outcome, and an output that is written.
@@ -43,9 +44,9 @@ pub trait Job<A: Allocator + Copy> {
         ensures reads { IfOk result (λ picks. (view self.now).reads) }
         ensures refused { IsErrOf result PicksFault.BadPicks → (view self.now).reads → ⊥ };
 
-    /// The outcome of a refusal.
-    fn refusal_outcome(&self, alloc: A, refusal: Refusal) -> Self::Outcome
-        ensures { IsRefusalOutcome (view self.now) (refusal_of refusal) result };
+    /// The outcome of a refusal, and the form of what is written for it.
+    fn refusal_outcome(&self, alloc: A, refusal: Refusal) -> (Self::Outcome, RefusalForm)
+        ensures { IsRefusalOutcome (view self.now) (refusal_of refusal) result.0 result.1 };
 
     /// Whether the outcome is what was asked for: no refusal, and nothing that is lacking.
     fn succeeds(&self, outcome: &Self::Outcome) -> bool
@@ -107,24 +108,23 @@ pub enum Reading<O: Drop, A: Allocator> {
     },
     Refused {
         outcome: O,
-        line: Vec<u8, A>,
+        text: Vec<u8, A>,
     },
 }
 
-/// The outcome and the line of a refusal.
+/// The outcome of a refusal of a text, and what is written for it.
 fn refuse<A: Allocator + Copy, J: Job<A>>(
     alloc: A,
     job: &J,
+    text: &[u8],
     refusal: Refusal,
 ) -> Result<Reading<J::Outcome, A>, J::Fault>
-    ensures given { IfOk result (IsRefusalReading (J.view job.now) (refusal_of refusal)) }
+    ensures given { IfOk result (IsRefusalReading (J.view job.now) text.now (refusal_of refusal)) }
     ensures fault { IfErr result (IsOfNoEnd (J.view job.now)) }
 {
-    match refusal_bytes(alloc, refusal) {
-        Ok(line) => Ok(Reading::Refused {
-            outcome: job.refusal_outcome(alloc, refusal),
-            line,
-        }),
+    let (outcome, form) = job.refusal_outcome(alloc, refusal);
+    match refusal_output(alloc, form, text, refusal) {
+        Ok(text) => Ok(Reading::Refused { outcome, text }),
         Err(_) => Err(job.fault_of(RunFault::OutOfMemory)),
     }
 }
@@ -143,7 +143,7 @@ fn accept_text<A: Allocator + Copy, J: Job<A>>(
 {
     match accept(alloc, text) {
         Ok(program) => Ok(Reading::Accepted { picks, program }),
-        Err(Denial::Refused(refusal)) => refuse(alloc, job, refusal),
+        Err(Denial::Refused(refusal)) => refuse(alloc, job, text, refusal),
         Err(Denial::OutOfMemory) => Err(job.fault_of(RunFault::OutOfMemory)),
     }
 }
@@ -164,7 +164,7 @@ fn read_with<A: Allocator + Copy, J: Job<A>, R: Read>(
         Err(fault) => return Err(job.fault_of(fault)),
     };
     if text.len() > MAX_TEXT {
-        return refuse(alloc, job, Refusal::TooLong);
+        return refuse(alloc, job, &text, Refusal::TooLong);
     }
     accept_text(alloc, job, picks, &text)
 }
@@ -181,7 +181,7 @@ pub fn read_script<A: Allocator + Copy, J: Job<A>, R: Read>(
     match job.picks(alloc) {
         Ok(picks) => read_with(alloc, job, picks, reader),
         Err(PicksFault::OutOfMemory) => Err(job.fault_of(RunFault::OutOfMemory)),
-        Err(PicksFault::BadPicks) => refuse(alloc, job, Refusal::BadPicks),
+        Err(PicksFault::BadPicks) => refuse(alloc, job, b"", Refusal::BadPicks),
     }
 }
 
@@ -195,12 +195,12 @@ fn prepare<A: Allocator + Copy, J: DirectJob<A>, R: Read>(
 {
     match read_script(alloc, job, reader) {
         Ok(Reading::Accepted { picks, program }) => job.answer(alloc, &picks, &program),
-        Ok(Reading::Refused { outcome, line }) => Ok((outcome, line)),
+        Ok(Reading::Refused { outcome, text }) => Ok((outcome, text)),
         Err(fault) => Err(fault),
     }
 }
 
-/// Does a job with the script that the reader holds, and writes its output, or the line of the refusal. The
+/// Does a job with the script that the reader holds, and writes its output, or what it writes for the refusal. The
 /// output is built whole before its first byte is written, and nothing is tried again; of the reader at most
 /// 1,048,577 bytes are read, and none where the job is refused for its picks. A read that fails is `Read`; a
 /// write that fails or takes no byte, or a failed flush, is `Write` with the number of bytes that were taken.

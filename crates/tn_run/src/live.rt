@@ -13,6 +13,7 @@ use crate::fault::{LiveFault, RunFault};
 use crate::job::{Job, Reading, read_script};
 use crate::last_passes::settle;
 use crate::outcome::{Outcome, RunRefusal, is_listed};
+use crate::refusal_form::RefusalForm;
 use std::alloc::{Allocator, Global};
 use std::io::{Read, Write};
 use std::marker::{Brand, Send, Sync};
@@ -158,11 +159,12 @@ impl Job<Global> for LiveRun {
         Ok(Vec::new(alloc))
     }
 
-    fn refusal_outcome(&self, alloc: Global, refusal: Refusal) -> Ran {
-        Ran {
+    fn refusal_outcome(&self, alloc: Global, refusal: Refusal) -> (Ran, RefusalForm) {
+        let ran = Ran {
             outcome: Outcome::Refused(RunRefusal::Text(refusal)),
             picks: Vec::new(alloc),
-        }
+        };
+        (ran, RefusalForm::Line)
     }
 
     fn succeeds(&self, outcome: &Ran) -> bool {
@@ -221,7 +223,7 @@ impl<A: Allocator + Copy> Job<A> for LiveReading {
         Ok(Vec::new(alloc))
     }
 
-    fn refusal_outcome(&self, _alloc: A, refusal: Refusal) -> Ran {
+    fn refusal_outcome(&self, _alloc: A, refusal: Refusal) -> (Ran, RefusalForm) {
         LiveRun.refusal_outcome(self.alloc, refusal)
     }
 
@@ -259,7 +261,7 @@ fn prepare_within<A: Allocator + Copy + Send + Sync, R: Read, T: Threads + Wait 
     let (alloc, heap) = heaps;
     match read_script(heap, &LiveReading { alloc }, reader) {
         Ok(Reading::Accepted { program, .. }) => answer_live(rt, heaps, program, workers),
-        Ok(Reading::Refused { outcome, line }) => refusal_in(alloc, outcome, &line),
+        Ok(Reading::Refused { outcome, text }) => refusal_in(alloc, outcome, &text),
         Err(fault) => Err(fault),
     }
 }

@@ -8,7 +8,7 @@ use tn_refusal::Refusal;
 /// Why a script is not run.
 #[derive(Clone, Copy, Debug, PartialEq, Eq, Drop)]
 pub enum RunRefusal {
-    /// The script or the text of picks is refused: the line of the refusal is written.
+    /// The script or the text of picks is refused: what the job writes for a refusal is written.
     Text(Refusal),
     /// The text of moves is refused, which says no moves of the accepted script: nothing is written.
     Moves(MovesRefusal),

@@ -11,6 +11,7 @@ ghost use Rattle.tn_run.specs.Jobs.{GivesMore, Meets};
 use crate::fault::RunFault;
 use crate::job::{DirectJob, Job, transact};
 use crate::outcome::{Outcome, RunRefusal, is_listed};
+use crate::refusal_form::RefusalForm;
 use std::alloc::Allocator;
 use std::io::{Read, Write};
 use tn_listing::{PicksFault, transcript_output};
@@ -81,8 +82,9 @@ impl<A: Allocator + Copy> Job<A> for Schedule<'_> {
         self.picks_of_text(alloc)
     }
 
-    fn refusal_outcome(&self, _alloc: A, refusal: Refusal) -> Outcome {
-        Outcome::Refused(RunRefusal::Text(refusal))
+    fn refusal_outcome(&self, _alloc: A, refusal: Refusal) -> (Outcome, RefusalForm) {
+        let outcome = Outcome::Refused(RunRefusal::Text(refusal));
+        (outcome, RefusalForm::Line)
     }
 
     fn succeeds(&self, outcome: &Outcome) -> bool {

@@ -9,6 +9,7 @@ mod Runs
 mod Pairs
 mod PairLoops
 mod OwnLinks
+mod FiringClauses
 mod OpenClauses
 mod CallSettings
 mod Phases

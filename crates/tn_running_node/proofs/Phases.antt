@@ -1,5 +1,5 @@
 -- A pair of sessions by its phase.
-use Rattle.std.proofs.Common.{◌≡◌, true, false, not, ◌&&◌, List, [], refl, sym, ap₂, subst, append-nil, option_to_list, ℕ}
+use Rattle.std.proofs.Common.{◌≡◌, Bool, true, false, List, [], refl, sym, subst, append-nil, option_to_list, ℕ}
 use Rattle.std.specs.declared.vec.Vec.{Vec}
 use Rattle.def_term.specs.Alive.{Alive}
 use Rattle.def_node.specs.Event.{Event}
@@ -17,12 +17,11 @@ use Rattle.tn_flags.specs.declared.event.Event as flags
 use Rattle.tn_node.specs.Outlooks.{outlook_seen}
 use Rattle.tn_session.specs.Looks.{is_live}
 use Rattle.tn_running_node.specs.Lines.{PutsBothLines}
-use Rattle.tn_running_node.specs.Pairs.{IsPair, SawBoth, Saw, IsOpenness, live_pair_after, determined_by}
+use Rattle.tn_running_node.specs.Pairs.{IsPair, SawBoth, Saw, live_pair_after}
 use Rattle.tn_running_node.specs.Views.{node_run_seen}
 use Rattle.tn_running_node.specs.declared.lines.LineKinds.{LineKinds}
 use Rattle.tn_running_node.specs.declared.pair.SessionPair.{SessionPair}
 use Rattle.tn_running_node.specs.declared.pair.NodeStep.{NodeStep}
-use Rattle.tn_running_node.specs.declared.pair.Openness.{Openness}
 
 live-is : (ph : Phase) → true ≡ is_live ph → ph ≡ live
 live-is absent h = cc h
@@ -70,8 +69,10 @@ module _ {A : Type 0} (o : Exports) (living : Alive) (step : NodeStep A) (e : Ev
 
 -- ---- a live one
 
-module _ {A : Type 0} (o : Exports) (living : Alive) (step : NodeStep A) (event : flags.Event A) (c : comparison.SessionPair) (new : SessionPair A) (openness : Openness) (out out' : Vec ℕ A) (kinds : LineKinds) where
-  pub saw_live : true ≡ is_live c.here.phase → IsOpenness step.outlook (event_of event) c.there.session openness → SawBoth o step event openness c new out out' kinds → Saw o living step (event_of event) c new out out' kinds
+module _ {A : Type 0} (o : Exports) (living : Alive) (step : NodeStep A) (event : flags.Event A) (c : comparison.SessionPair) (new : SessionPair A) (is_determined : Bool) (out out' : Vec ℕ A) (kinds : LineKinds) where
+  pub saw_live : true ≡ is_live c.here.phase
+      → is_determined ≡ comparison.pair_determined_after (run_after (node_run_seen step.run.now) (outlook_seen step.outlook) (event_of event)) (outlook_seen step.outlook) c (event_of event)
+      → SawBoth o step event is_determined c new out out' kinds → Saw o living step (event_of event) c new out out' kinds
   saw_live there is saw =
       let e = event_of event in
       let r = node_run_seen step.run.now in
@@ -80,14 +81,13 @@ module _ {A : Type 0} (o : Exports) (living : Alive) (step : NodeStep A) (event 
       let ph : live ≡ c.here.phase = sym (live-is c.here.phase there) in
       let here = texts (option_to_list (event_reported c.here e).1) in
       let away = texts (run_messages r l c.there (reported_there c.there.session e).0 e (reported_there c.there.session e).1) in
-      let determined : determined_by q c openness ≡ comparison.pair_determined_after q l c e = ap₂ (λ a b. c.is_determined && (q.is_determined && (not a && not b))) is.opens is.hides in
       record {
         pair =
             subst (λ p. IsPair o (alive_after living e) (pair_after_in p q l c e) new) ph
-            (subst (λ b. IsPair o (alive_after living e) (live_pair_after c e b) new) determined (saw.pair (alive_after living e)));
+            (subst (λ b. IsPair o (alive_after living e) (live_pair_after c e b) new) is (saw.pair (alive_after living e)));
         lines =
             subst (λ p. PutsBothLines c.name (lines_of_event_in p r q l c e) out out' kinds) ph
-            (subst (λ b. PutsBothLines c.name (lines_by_openness c.is_determined b here away) out out' kinds) determined saw.lines);
+            (subst (λ b. PutsBothLines c.name (lines_by_openness c.is_determined b here away) out out' kinds) is saw.lines);
       }
 
 -- ---- a link of a process with itself

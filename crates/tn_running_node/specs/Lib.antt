@@ -2,9 +2,11 @@ pub mod Views
 pub mod Lines
 pub mod Messages
 pub mod Scenes
+pub mod SameMessages
 pub mod RunChanges
 pub mod NodeSessions
 pub mod ClauseDifferences
+pub mod FiringClauses
 pub mod Evaluations
 pub mod Pairs
 pub mod Comparisons

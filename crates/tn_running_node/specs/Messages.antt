@@ -1,5 +1,5 @@
 -- What a node reports of an event, by what it looks at.
-use Rattle.std.specs.Prelude.{ℕ, Bool, false, ◌&&◌, if◌then◌else◌, List, [], ◌++◌, Option, option_to_list}
+use Rattle.std.specs.Prelude.{ℕ, Bool, false, not, ◌&&◌, if◌then◌else◌, List, [], ◌++◌, Option, option_to_list}
 use Rattle.std.specs.Option.{is_some}
 use Rattle.def_term.specs.Alive.{is_alive}
 use Rattle.def_term.specs.Tree.{Tree}
@@ -65,6 +65,10 @@ noproc_messages_by ms v p = error_messages_by ms v.has_call p (word "noproc") ++
 -- of an exit that isn't reported already
 abbrev pub exit_messages_by : NodeRun → Outlook → List NodeMark → SightView → ℕ → Tree → Option Tree → List Tree
 exit_messages_by r l ms v p x m = (if is_some l.error then error_messages_by ms v.has_call p x else []) ++ exit_messages (ends_by_error r l p) p x m
+
+-- an exit that isn't reported already, and that isn't by an error
+abbrev pub is_plain_exit : NodeRun → Outlook → ℕ → Bool
+is_plain_exit r l p = not (is_reported_exit (signal_of r.signals p)) && not (ends_by_error r l p)
 
 abbrev pub run_messages_by : NodeRun → Outlook → List NodeMark → SightView → Event → Option Tree → List Tree
 run_messages_by r l ms v (exited p x) m = if is_reported_exit (signal_of r.signals p) then [] else exit_messages_by r l ms v p x m

@@ -16,18 +16,20 @@ use Rattle.tn_node.specs.Outlooks.{outlook_seen}
 use Rattle.tn_node.specs.declared.outlook.Outlook.{Outlook}
 use Rattle.tn_session.specs.Sessions.{SessionValue, value_in}
 use Rattle.tn_session.specs.declared.session.Session.{Session}
+use Rattle.tn_session.specs.declared.message.Message.{Message}
+use Rattle.tn_running_node.specs.SameMessages.{IsMessageOfEvent, lines_there}
 use Rattle.tn_running_node.specs.Views.{node_marks_seen, node_run_seen, lines_seen}
 use Rattle.tn_running_node.specs.declared.node_run.NodeRun.{NodeRun}
 use Rattle.tn_running_node.specs.declared.node_session.NodeSession.{NodeSession}
 
--- a session in this state, which saw the event, and these are the lines of its messages
-pub record SeesThereFrom {A : Type 0} (r : NodeRun A) (l : Outlook) (e : flags.Event A) (old new : NodeSession A) (lines : Vec (Vec ℕ A) A) (v : SessionValue) (there : definition.Session × Option Tree) : Type 0 where
+-- a session in this state, which saw the event, and these are the lines of its messages; where there are none, those of the message here, which is of the event
+pub record SeesThereFrom {A : Type 0} (r : NodeRun A) (l : Outlook) (e : flags.Event A) (here : Option (Message A)) (old new : NodeSession A) (lines : Option (Vec (Vec ℕ A) A)) (v : SessionValue) (there : definition.Session × Option Tree) : Type 0 where
   pub session : value_in new.session ≡ Some (record v { state = there.0 })
   pub marks : node_marks_seen new.marks ≡ marks_after there.0 (node_marks_seen old.marks) (event_of e)
-  pub messages : lines_seen lines ≡ texts (run_messages (node_run_seen r) (outlook_seen l) (record { session = v.state; marks = node_marks_seen old.marks }) there.0 (event_of e) there.1)
+  pub messages : IsMessageOfEvent e here → lines_there here lines ≡ texts (run_messages (node_run_seen r) (outlook_seen l) (record { session = v.state; marks = node_marks_seen old.marks }) there.0 (event_of e) there.1)
 
-abbrev pub SeesThere : {A : Type 0} → NodeRun A → Outlook → flags.Event A → NodeSession A → NodeSession A → Vec (Vec ℕ A) A → Type 0
-SeesThere r l e old new lines = IsSomeAnd (value_in old.session) (λ v. SeesThereFrom r l e old new lines v (reported_there v.state (event_of e)))
+abbrev pub SeesThere : {A : Type 0} → NodeRun A → Outlook → flags.Event A → Option (Message A) → NodeSession A → NodeSession A → Option (Vec (Vec ℕ A) A) → Type 0
+SeesThere r l e here old new lines = IsSomeAnd (value_in old.session) (λ v. SeesThereFrom r l e here old new lines v (reported_there v.state (event_of e)))
 
 -- ---- by the rules of the model
 

@@ -1,5 +1,5 @@
 -- What the code's sessions here and on a node stand for, and what becomes of them.
-use Rattle.std.specs.Prelude.{◌≡◌, ℕ, Bool, true, not, ◌&&◌, List, [], map, filter, Option, Some, None, option_to_list}
+use Rattle.std.specs.Prelude.{◌≡◌, ℕ, Bool, true, List, [], map, filter, Option, Some, None, option_to_list}
 use Rattle.std.specs.Option.{IsSomeAnd}
 use Rattle.std.specs.Str.{bytes_eq}
 use Rattle.std.specs.declared.vec.Vec.{Vec}
@@ -20,7 +20,7 @@ use Rattle.def_running_node.specs.NodeSessions.{marks_after, reported_there}
 use Rattle.def_running_node.specs.NodeRuns as runs
 use Rattle.def_running_node.specs.NodeRuns.{run_after, run_messages, opens, hides, lines_by_openness}
 use Rattle.def_running_node.specs.NodeComparisons as comparison
-use Rattle.def_running_node.specs.NodeComparisons.{texts, pair_elsewhere, pair_after_in, lines_of_event_in, own_link_event, pair_after_own_link_in, lines_of_own_link_in, pair_after_command, lines_of_command}
+use Rattle.def_running_node.specs.NodeComparisons.{texts, pair_determined_after, pair_elsewhere, pair_after_in, lines_of_event_in, own_link_event, pair_after_own_link_in, lines_of_own_link_in, pair_after_command, lines_of_command}
 use Rattle.tn_term.specs.Views.{alive_of}
 use Rattle.tn_flags.specs.Views.{event_of, command_of}
 use Rattle.tn_flags.specs.declared.event.Event as flags
@@ -67,21 +67,16 @@ live_pair_after c e b =
     let there : definition.Session × Option Tree = reported_there c.there.session e in
     record c { here = (event_reported c.here e).0; there = record { session = there.0; marks = marks_after there.0 c.there.marks e }; is_determined = b }
 
--- whether it is, where the processes are these then
-abbrev pub determined_by : (after : runs.NodeRun) → comparison.SessionPair → Openness → Bool
-determined_by q c openness = c.is_determined && (q.is_determined && (not openness.opens && not openness.hides))
-
 -- where both saw the event, the lines between them were appended
-pub record SawBoth {A : Type 0} (o : Exports) (step : NodeStep A) (event : flags.Event A) (openness : Openness) (c : comparison.SessionPair) (new : SessionPair A) (out out' : Vec ℕ A) (kinds : LineKinds) : Type 0 where
-  pub pair : let e : Event = event_of event in let q : runs.NodeRun = run_after (node_run_seen step.run.now) (outlook_seen step.outlook) e in
-      (living : Alive) → IsPair o living (live_pair_after c e (determined_by q c openness)) new
+pub record SawBoth {A : Type 0} (o : Exports) (step : NodeStep A) (event : flags.Event A) (is_determined : Bool) (c : comparison.SessionPair) (new : SessionPair A) (out out' : Vec ℕ A) (kinds : LineKinds) : Type 0 where
+  pub pair : (living : Alive) → IsPair o living (live_pair_after c (event_of event) is_determined) new
   pub lines : let e : Event = event_of event in let r = node_run_seen step.run.now in let l = outlook_seen step.outlook in
       let there : definition.Session × Option Tree = reported_there c.there.session e in
-      PutsBothLines c.name (lines_by_openness c.is_determined (determined_by (run_after r l e) c openness)
+      PutsBothLines c.name (lines_by_openness c.is_determined is_determined
       (texts (option_to_list (event_reported c.here e).1)) (texts (run_messages r l c.there there.0 e there.1))) out out' kinds
 
-abbrev pub PairSeesBoth : {A : Type 0} → NodeStep A → flags.Event A → Openness → SessionPair A → SessionPair A → Vec ℕ A → Vec ℕ A → LineKinds → Type 0
-PairSeesBoth step event openness old new out out' kinds = (o : Exports) (living : Alive) (c : comparison.SessionPair) → IsPair o living c old → SawBoth o step event openness c new out out' kinds
+abbrev pub PairSeesBoth : {A : Type 0} → NodeStep A → flags.Event A → Bool → SessionPair A → SessionPair A → Vec ℕ A → Vec ℕ A → LineKinds → Type 0
+PairSeesBoth step event b old new out out' kinds = (o : Exports) (living : Alive) (c : comparison.SessionPair) → IsPair o living c old → SawBoth o step event b c new out out' kinds
 
 -- the pair of sessions that aren't there saw the event
 abbrev pub PairSeesElsewhere : {A : Type 0} → flags.Event A → SessionPair A → SessionPair A → Type 0
@@ -96,6 +91,12 @@ pub record IsOpenness (l : Outlook) (e : Event) (s : definition.Session) (openne
 abbrev pub HasOpenness : {A : Type 0} → Outlook → flags.Event A → SessionPair A → Openness → Type 0
 HasOpenness l event pair openness =
     (o : Exports) (living : Alive) (c : comparison.SessionPair) → IsPair o living c pair → IsOpenness l (event_of event) c.there.session openness
+
+-- after the event what is reported there is determined, or isn't
+abbrev pub IsDeterminedAfter : {A : Type 0} → NodeStep A → flags.Event A → SessionPair A → Bool → Type 0
+IsDeterminedAfter step event pair b =
+    (o : Exports) (living : Alive) (c : comparison.SessionPair) → let e : Event = event_of event in let l = outlook_seen step.outlook in
+    IsPair o living c pair → b ≡ pair_determined_after (run_after (node_run_seen step.run.now) l e) l c e
 
 -- the pair saw the event, and the lines between both were appended
 pub record Saw {A : Type 0} (o : Exports) (living : Alive) (step : NodeStep A) (e : Event) (c : comparison.SessionPair) (new : SessionPair A) (out out' : Vec ℕ A) (kinds : LineKinds) : Type 0 where

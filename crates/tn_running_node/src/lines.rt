@@ -1,14 +1,16 @@
 // The lines of a session here and on a running node, and what is between them.
 ghost use Rattle.std.specs.Prelude.{◌≡◌, ◌||◌, false, ◌++◌, ◌∷◌, [], IfOk, OnOk, map, flat_map, drop, slice_get};
-ghost use Rattle.std.specs.Option.{is_some};
+ghost use Rattle.std.specs.Prelude.{option_to_list};
+ghost use Rattle.std.specs.Option.{is_some, option_map};
 ghost use Rattle.def_term.specs.Text.{w};
 ghost use Rattle.def_running_node.specs.NodeRuns.{lines_by_openness};
-ghost use Rattle.def_running_node.specs.NodeComparisons.{reply_texts};
+ghost use Rattle.def_running_node.specs.NodeComparisons.{reply_texts, texts};
 ghost use Rattle.tn_term.specs.Views.{tree_of};
 ghost use Rattle.tn_session.specs.Messages.{message_seen};
 ghost use Rattle.tn_text.specs.Writes.{Grows};
 ghost use Rattle.tn_running_node.specs.Views.{lines_seen};
 ghost use Rattle.tn_running_node.specs.Lines.{is_line, common_from, named_text, PutsBothLines};
+ghost use Rattle.tn_running_node.specs.SameMessages.{HasSameBetween};
 
 use std::alloc::{AllocError, Allocator};
 use tn_session::Message;
@@ -64,6 +66,35 @@ pub fn push_message<A: Allocator + Copy>(
     message.append_text(&mut line)?;
     lines.push(line)?;
     Ok(())
+}
+
+/// The lines of a message, where there is one. An error is refused memory.
+fn lines_of_message<A: Allocator + Copy>(
+    alloc: A,
+    message: &Option<Message<'_, A>>,
+) -> Result<TextLines<A>, AllocError>
+    ensures { IfOk result (λ v. lines_seen v ≡ texts (option_to_list (option_map message_seen message.now))) }
+{
+    let mut lines = Vec::new(alloc);
+    if let Some(message) = message {
+        push_message(alloc, message, &mut lines)?;
+    }
+    Ok(lines)
+}
+
+/// The lines of the message that a session here reports, and those of one of a node; none of both where the node
+/// reports the same message, so that no text is made of it. An error is refused memory.
+pub fn both_lines<A: Allocator + Copy>(
+    alloc: A,
+    message: &Option<Message<'_, A>>,
+    there: Option<TextLines<A>>,
+) -> Result<(TextLines<A>, TextLines<A>), AllocError>
+    ensures { IfOk result (λ both. HasSameBetween message.now there both.0 both.1) }
+{
+    match there {
+        Some(lines) => Ok((lines_of_message(alloc, message)?, lines)),
+        None => Ok((Vec::new(alloc), Vec::new(alloc))),
+    }
 }
 
 /// The lines of a reply: one. An error is refused memory.

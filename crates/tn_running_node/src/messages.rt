@@ -1,5 +1,5 @@
 // The messages that a session of a running node reports of an event.
-ghost use Rattle.std.specs.Prelude.{◌≡◌, ◌++◌, ◌∷◌, [], IfOk, OnOk, map};
+ghost use Rattle.std.specs.Prelude.{◌≡◌, true, ◌++◌, ◌∷◌, [], IfOk, OnOk, map};
 ghost use Rattle.std.specs.Option.{option_map};
 ghost use Rattle.def_term.specs.Text.{w};
 ghost use Rattle.def_term.specs.Tree.{tuple, list, none, of_elements};
@@ -12,11 +12,14 @@ ghost use Rattle.tn_session.specs.Messages.{message_seen};
 ghost use Rattle.tn_term.specs.Views.{tree_of};
 ghost use Rattle.tn_running_node.specs.Views.{lines_seen, node_mark_seen, node_run_seen};
 ghost use Rattle.tn_running_node.specs.Messages.{sight_view, messages_by, error_messages_by, noproc_messages_by};
+ghost use Rattle.tn_running_node.specs.Messages.{is_plain_exit};
+ghost use Rattle.tn_running_node.specs.SameMessages.{AreAsHere, HasOtherLines};
 ghost use Rattle.tn_running_node.specs.Scenes.{exit_messages_in, messages_in};
 
 use crate::lines::{TextLines, push_message};
 use crate::node_mark::{NodeMark, is_for_exceptions, kind_at};
 use crate::node_run::NodeRun;
+use crate::same_message::{is_same, is_where};
 use crate::sight::Sight;
 use crate::signals::{is_reported_exit, signal_of};
 use std::alloc::{AllocError, Allocator};
@@ -239,6 +242,34 @@ fn push_by_marks<A: Allocator + Copy>(
     }
 }
 
+/// Whether what `push_by_marks` appends is the line of the message that a session here reports. Where it is false that
+/// may be so too.
+fn is_as_here_by_marks<A: Allocator + Copy>(
+    marks: &[NodeMark<A>],
+    sight: Sight,
+    event: &Event<A>,
+    message: &Option<Message<'_, A>>,
+    here: &Option<Message<'_, A>>,
+) -> bool
+    ensures { result ≡ true → AreAsHere event.now
+        (messages_by (map node_mark_seen marks.now) (sight_view sight) (event_of event.now)) message.now here.now }
+{
+    match event {
+        Event::Sent { .. } | Event::Received { .. } => {
+            !(sight.is_decided & sight.is_silent) & is_same(message, here)
+        }
+        Event::Returned { pid, depth, .. } => {
+            let is_marked = kind_at(marks, *pid, *depth).is_some();
+            is_where(is_marked & sight.has_call, here)
+        }
+        Event::Raised { pid, depth, .. } => {
+            let is_marked = is_for_exceptions(kind_at(marks, *pid, *depth));
+            is_where(is_marked & sight.has_call, here)
+        }
+        _ => is_same(message, here),
+    }
+}
+
 /// What a node looks at of its processes, its marks and a process as it reports an event.
 #[derive_where(Clone, Copy)]
 pub struct Scene<'a, A: Allocator> {
@@ -268,9 +299,39 @@ impl<A: Allocator + Copy> Scene<'_, A> {
         push_ending(alloc, of_error, pid, reason, message, lines)
     }
 
+    /// Whether an exit is reported, and not as one by an error.
+    fn is_plain_exit(&self, pid: u32) -> bool
+        ensures { result ≡ is_plain_exit (node_run_seen self.now.run.now) (outlook_seen self.now.outlook) pid }
+    {
+        let is_reported = is_reported_exit(signal_of(&self.run.signals, pid));
+        let is_by_error = self.run.ends_by_error(self.outlook, pid);
+        !is_reported & !is_by_error
+    }
+
+    /// Whether what `push_messages` appends is the line of the message that a session here reports. Where it is false
+    /// that may be so too.
+    fn is_as_here(
+        &self,
+        event: &Event<A>,
+        message: &Option<Message<'_, A>>,
+        here: &Option<Message<'_, A>>,
+    ) -> bool
+        ensures { result ≡ true →
+            AreAsHere event.now (messages_in self.now (event_of event.now)) message.now here.now }
+    {
+        match event {
+            Event::Exited { pid, .. } => self.is_plain_exit(*pid) & is_same(message, here),
+            Event::GettingUnlinked { other, .. } => {
+                !self.run.has_ended(*other) & is_same(message, here)
+            }
+            Event::Linked { other, .. } => self.run.alive.has(*other) & is_same(message, here),
+            _ => is_as_here_by_marks(self.marks, self.sight, event, message, here),
+        }
+    }
+
     /// Appends the lines of what a session of the node reports of an event, where one of the model with its flags and
     /// settings reports this message. An error is refused memory.
-    pub fn push_messages(
+    fn push_messages(
         &self,
         alloc: A,
         event: &Event<A>,
@@ -299,5 +360,25 @@ impl<A: Allocator + Copy> Scene<'_, A> {
             }
             _ => push_by_marks(alloc, self.marks, self.sight, event, message, lines),
         }
+    }
+
+    /// The lines of what a session of the node reports of an event, where one of the model with its flags and settings
+    /// reports this message; None where they are the line of the message that the session here reports. An error is
+    /// refused memory.
+    pub fn other_lines(
+        &self,
+        alloc: A,
+        event: &Event<A>,
+        message: &Option<Message<'_, A>>,
+        here: &Option<Message<'_, A>>,
+    ) -> Result<Option<TextLines<A>>, AllocError>
+        ensures { IfOk result (HasOtherLines self.now event.now message.now here.now) }
+    {
+        if self.is_as_here(event, message, here) {
+            return Ok(None);
+        }
+        let mut lines = Vec::new(alloc);
+        self.push_messages(alloc, event, message, &mut lines)?;
+        Ok(Some(lines))
     }
 }

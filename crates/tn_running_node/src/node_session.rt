@@ -11,7 +11,7 @@ use crate::sight::{new_flags_for, sight_after, sight_before};
 use std::alloc::{AllocError, Allocator};
 use tn_flags::Event;
 use tn_node::Outlook;
-use tn_session::{Room, Session};
+use tn_session::{Message, Room, Session};
 
 /// A session of a running node: its flags and settings, and the frames that it has marked.
 #[derive(Drop)]
@@ -21,7 +21,7 @@ pub struct NodeSession<A: Allocator> {
 }
 
 /// The session sees an event: the lines of what it reports. An error is refused memory.
-pub fn see_here<A: Allocator + Copy>(
+fn see_here<A: Allocator + Copy>(
     alloc: A,
     session: &mut Session<A>,
     event: &Event<A>,
@@ -38,15 +38,17 @@ pub fn see_here<A: Allocator + Copy>(
 
 impl<A: Allocator + Copy> NodeSession<A> {
     /// The session sees an event of a step of which this was known before it, in a run whose processes were these: the
-    /// lines of what it reports. An error is refused memory.
+    /// lines of what it reports, or None where that is this message, which the session here reports. An error is
+    /// refused memory.
     pub fn see(
         &mut self,
         alloc: A,
         run: &NodeRun<A>,
         outlook: Outlook,
         event: &Event<A>,
-    ) -> Result<TextLines<A>, AllocError>
-        ensures { IfOk result (SeesThere run.now outlook event.now self.old self.new) }
+        here: &Option<Message<'_, A>>,
+    ) -> Result<Option<TextLines<A>>, AllocError>
+        ensures { IfOk result (SeesThere run.now outlook event.now here.now self.old self.new) }
     {
         let Some(look) = self.session.look() else {
             return Err(AllocError);
@@ -67,8 +69,7 @@ impl<A: Allocator + Copy> NodeSession<A> {
             marks: &self.marks,
             sight: sight_after(before, &look, event),
         };
-        let mut lines = Vec::new(alloc);
-        scene.push_messages(alloc, event, &message, &mut lines)?;
+        let lines = scene.other_lines(alloc, event, &message, here)?;
         change_marks(alloc, &mut self.marks, &look, event)?;
         Ok(lines)
     }

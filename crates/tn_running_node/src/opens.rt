@@ -6,23 +6,24 @@ ghost use Rattle.def_running_node.specs.NodeRuns.{opens};
 ghost use Rattle.tn_flags.specs.Views.{call_seen, event_of};
 ghost use Rattle.tn_spec.specs.Wholes.{spec_seen};
 ghost use Rattle.tn_session.specs.Looks.{look_seen, look_setting};
-ghost use Rattle.tn_running_node.specs.ClauseDifferences.{opens_with};
+ghost use Rattle.tn_running_node.specs.ClauseDifferences.{opens_with, opens_where_fired};
 ghost use Rattle.tn_term.specs.Views.{tree_of};
 ghost use Rattle.tn_running_node.specs.Evaluations.{OpensBy, OpensOn};
 
 use crate::actor::Actor;
 use crate::clause::{ClauseDifferences, clause_differences};
+use crate::firing_bindings::firing_bindings;
 use bumpalo::Bump;
 use std::alloc::{AllocError, Allocator};
-use tn_action::{Context, Effect};
+use tn_action::{Context, Effect, EvalContext, Position, body_effects};
 use tn_difference::{Difference, body_differs};
 use tn_flags::{Call, Event};
 use tn_guard::{AtomConst, ListView, Value, lent_values};
+use tn_head::Bindings;
 use tn_index::Setting;
 use tn_session::{Look, NewestSetting};
-use tn_spec::{Dialect, Spec};
+use tn_spec::{Clause, Dialect, Spec};
 use tn_term::Term;
-use tn_verdict::{Verdict, verdict};
 
 /// Whether a command is about a call: every call, or those that name the module.
 pub fn concerns<A: Allocator + Copy>(newest: &NewestSetting<'_, A>, call: &Call<A>) -> bool
@@ -48,6 +49,30 @@ fn clause_opens<A: Allocator>(
         || body_differs(Difference::IgnoresSilent, dialect, context, effects)
 }
 
+/// Whether a clause that fires with these bindings does.
+fn fired_opens<'a, A: Allocator + Copy>(
+    alloc: A,
+    arena: &'a Bump<A>,
+    dialect: Dialect,
+    clause: &'a Clause<A>,
+    bindings: &'a Bindings<'a, A, &'a Bump<A>>,
+    context: &Context<'a, '_, A>,
+) -> Result<bool, AllocError>
+    ensures { IfOk result (λ b. b ≡ opens_where_fired dialect clause.now bindings.now context.now) }
+{
+    let scene = EvalContext {
+        alloc,
+        arena,
+        dialect,
+        part: Position::Body,
+        bindings,
+        context,
+    };
+    let effects = body_effects(&clause.body, &scene)?;
+    let these = clause_differences(alloc, arena, dialect, clause, bindings, context)?;
+    Ok(clause_opens(these, dialect, context, &effects))
+}
+
 /// Whether the first clause that fires does, where one fires. What is evaluated lies in the arena.
 fn clauses_open<'a, A: Allocator + Copy>(
     alloc: A,
@@ -57,15 +82,14 @@ fn clauses_open<'a, A: Allocator + Copy>(
 ) -> Result<bool, AllocError>
     ensures { IfOk result (OpensBy (by (spec_seen spec.now)) context.now) }
 {
+    let dialect = spec.dialect;
     let clauses = &spec.clauses;
     for i in 0..clauses.len() {
         let clause = &clauses[i];
-        match verdict(alloc, arena, spec.dialect, clause, context)? {
-            Verdict::Fails(_) => {}
-            Verdict::Fires { bindings, effects } => {
-                let dialect = spec.dialect;
-                let these = clause_differences(alloc, arena, dialect, clause, bindings, context)?;
-                return Ok(clause_opens(these, dialect, context, &effects));
+        match firing_bindings(alloc, arena, dialect, clause, context)? {
+            None => {}
+            Some(bindings) => {
+                return Ok(fired_opens(alloc, arena, dialect, clause, bindings, context)?);
             }
         }
     }

@@ -9,13 +9,13 @@ ghost use Rattle.def_script.specs.Exports.{Exports};
 ghost use Rattle.def_running_node.specs.NodeComparisons as comparison;
 ghost use Rattle.tn_session.specs.Looks.{is_live};
 ghost use Rattle.tn_running_node.specs.Pairs.{SeesSilently, PairSeesBoth, PairSeesElsewhere};
-ghost use Rattle.tn_running_node.specs.Pairs.{IsPair, HasOpenness, PairSees, PairSeesOwnLink};
+ghost use Rattle.tn_running_node.specs.Pairs.{IsPair, HasOpenness, IsDeterminedAfter, PairSees, PairSeesOwnLink};
 ghost use Rattle.tn_running_node.specs.Pairs.{absent_pairs, PairObeysThere, PairObeys};
 
 use crate::hides::hides;
-use crate::lines::{LineKinds, lines_of_reply, put_lines};
+use crate::lines::{LineKinds, both_lines, lines_of_reply, put_lines};
 use crate::node_run::NodeRun;
-use crate::node_session::{NodeSession, see_here};
+use crate::node_session::NodeSession;
 use crate::opens::opens;
 use crate::replies::command_there;
 use crate::session_name::is_session;
@@ -85,16 +85,17 @@ fn see_silently<A: Allocator + Copy>(
 }
 
 impl<A: Allocator + Copy> SessionPair<A> {
-    /// Both sessions, which are live, see an event, and the lines between them are appended.
+    /// Both sessions, which are live, see an event, after which this says whether what is reported there is determined,
+    /// and the lines between them are appended.
     fn see_both(
         &mut self,
         alloc: A,
         step: NodeStep<'_, A>,
         event: &Event<A>,
-        openness: Openness,
+        is_determined: bool,
         out: &mut Vec<u8, A>,
     ) -> Result<LineKinds, AllocError>
-        ensures ok { IfOk result (PairSeesBoth step.entry event.now openness self.old self.new out.old out.new) }
+        ensures ok { IfOk result (PairSeesBoth step.entry event.now is_determined self.old self.new out.old out.new) }
         ensures grows { Grows out.old.items out.new.items }
     {
         let Some(here) = &mut self.here.session else {
@@ -103,13 +104,20 @@ impl<A: Allocator + Copy> SessionPair<A> {
         let Some(there) = &mut self.there else {
             return Err(AllocError);
         };
-        let lines_here = see_here(alloc, here, event)?;
-        let lines_there = there.see(alloc, step.run, step.outlook, event)?;
+        let mut room = Room::new(alloc);
+        let message = here.tell(event, &mut room)?;
+        let lines = there.see(alloc, step.run, step.outlook, event, &message)?;
+        let (lines_here, lines_there) = both_lines(alloc, &message, lines)?;
         let was = self.is_determined;
-        let run_is_determined = step.run.is_determined_after(step.outlook, event);
-        let is = was & (run_is_determined & (!openness.opens & !openness.hides));
-        self.is_determined = is;
-        let kinds = put_lines(&self.here.name, was, is, &lines_here, &lines_there, out)?;
+        self.is_determined = is_determined;
+        let kinds = put_lines(
+            &self.here.name,
+            was,
+            is_determined,
+            &lines_here,
+            &lines_there,
+            out,
+        )?;
         Ok(kinds)
     }
 
@@ -155,6 +163,23 @@ impl<A: Allocator + Copy> SessionPair<A> {
         Ok(Openness { opens, hides })
     }
 
+    /// Whether what is reported there is determined after an event, which is evaluated only where it is so before it.
+    fn is_determined_after(
+        &self,
+        alloc: A,
+        step: NodeStep<'_, A>,
+        event: &Event<A>,
+    ) -> Result<bool, AllocError>
+        ensures { IfOk result (IsDeterminedAfter step.entry event.now self.now) }
+    {
+        let run_is_determined = step.run.is_determined_after(step.outlook, event);
+        if !(self.is_determined & run_is_determined) {
+            return Ok(false);
+        }
+        let openness = self.openness(alloc, step.outlook, event)?;
+        Ok(!openness.opens & !openness.hides)
+    }
+
     /// Both sessions see an event of a step, and the lines between them are appended. After an `Err`, which is refused
     /// memory, a part of them may stand there, and the sessions may be spent.
     pub fn see(
@@ -171,8 +196,8 @@ impl<A: Allocator + Copy> SessionPair<A> {
             self.see_elsewhere(alloc, event)?;
             return Ok(LineKinds::none());
         }
-        let openness = self.openness(alloc, step.outlook, event)?;
-        let kinds = self.see_both(alloc, step, event, openness, out)?;
+        let is_determined = self.is_determined_after(alloc, step, event)?;
+        let kinds = self.see_both(alloc, step, event, is_determined, out)?;
         Ok(kinds)
     }
 

@@ -8,6 +8,7 @@ ghost use Rattle.tn_node.specs.Worlds.{slot_of};
 ghost use Rattle.tn_search.specs.ReadyPicks.{has_command_left, is_ready, is_ready_pid, is_ready_in, may_move_by};
 
 use std::alloc::{AllocError, Allocator};
+use std::sync::Arc;
 use tn_node::Node;
 use tn_process::Process;
 use tn_program::Program;
@@ -25,7 +26,10 @@ pub(crate) fn has_command_left<A: Allocator + Copy>(program: &Program<A>, node: 
 }
 
 /// Whether a process is there and doesn't wait.
-fn is_ready<A: Allocator + Copy>(functions: &[Function<A>], slot: &Option<Process<A>>) -> bool
+fn is_ready<A: Allocator + Copy>(
+    functions: &[Function<A>],
+    slot: &Option<Arc<Process<A>, A>>,
+) -> bool
     ensures { result ≡ is_ready (functions_of functions.now) (Some (slot_of slot.now)) }
 {
     match slot {
@@ -37,7 +41,7 @@ fn is_ready<A: Allocator + Copy>(functions: &[Function<A>], slot: &Option<Proces
 /// The same of the process with this pid.
 fn is_ready_pid<A: Allocator + Copy>(
     functions: &[Function<A>],
-    slots: &[Option<Process<A>>],
+    slots: &[Option<Arc<Process<A>, A>>],
     pid: u32,
 ) -> bool
     ensures { result ≡ is_ready_pid (functions_of functions.now) (map slot_of slots.now) pid }

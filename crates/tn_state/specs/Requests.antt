@@ -10,6 +10,7 @@ use Rattle.def_state.specs.States.{state_text}
 use Rattle.tn_moves.specs.Schedules.{schedule_seen, ArePicks, HasPicks}
 use Rattle.tn_run.specs.Answers.{IsRefusedRun, text_refusal}
 use Rattle.tn_run.specs.Jobs.{JobView, failed_end}
+use Rattle.tn_run.specs.declared.refusal_form.RefusalForm.TheVariants.{Line}
 use Rattle.tn_run.specs.declared.fault.RunFault.{RunFault}
 use Rattle.tn_state.specs.declared.request.StateQuestion.{StateQuestion}
 use Rattle.tn_state.specs.declared.request.StateRequest.{StateRequest}
@@ -69,6 +70,7 @@ abbrev pub state_by : StateRequest → JobView StateOutcome RunFault
 state_by q = record {
   of_program = IsShown q;
   refusal_in = state_refusal;
+  refusal_form = Line;
   succeeds = is_state;
   has = λ outcome. Unit {0};
   reads = HasPicks (schedule_seen q.schedule);

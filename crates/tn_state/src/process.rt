@@ -22,6 +22,7 @@ ghost use Rattle.tn_state.specs.Processes.{first_terms, frame_terms, pid_where};
 use crate::line::{frame_term, mfa_term, next_number, pair, put_line, put_term, tuple_of_two};
 use std::alloc::{AllocError, Allocator};
 use std::collections::VecDeque;
+use std::sync::Arc;
 use tn_process::{Binding, Frame, Process, function_mfa};
 use tn_script::{Entry, Function};
 use tn_term::{FIRST_PID, Mfa, SharedTerm, Term};
@@ -376,7 +377,7 @@ fn put_process<A: Allocator + Copy>(
     alloc: A,
     functions: &[Function<A>],
     pid: u32,
-    slot: &Option<Process<A>>,
+    slot: &Option<Arc<Process<A>, A>>,
     out: &mut Vec<u8, A>,
 ) -> Result<(), AllocError>
     ensures { OnOk result (out.new.items ≡ out.old.items ++
@@ -384,7 +385,7 @@ fn put_process<A: Allocator + Copy>(
 {
     match slot {
         None => put_exited_process(alloc, pid, out),
-        Some(process) => put_living_process(alloc, functions, pid, process, out),
+        Some(owner) => put_living_process(alloc, functions, pid, &**owner, out),
     }
 }
 
@@ -392,7 +393,7 @@ fn put_process<A: Allocator + Copy>(
 pub(crate) fn put_processes<A: Allocator + Copy>(
     alloc: A,
     functions: &[Function<A>],
-    slots: &[Option<Process<A>>],
+    slots: &[Option<Arc<Process<A>, A>>],
     out: &mut Vec<u8, A>,
 ) -> Result<(), AllocError>
     requires { length slots.now ≤ 64 }

@@ -2,7 +2,8 @@ use Rattle.std.proofs.Common.{◌∙◌, ◌++◌, [], ◌∷◌, codes, ap}
 use Rattle.std.proofs.lemmas.Result.{IfOk-weaker}
 use Rattle.def_formats.specs.JsonRows.{number_value}
 use Rattle.def_picture.specs.JsonPicture.{pid_value}
-use Rattle.tn_picture.specs.JsonTokens.{json_member, span_tokens}
+use Rattle.tn_formats.specs.Tokens.{json_member}
+use Rattle.tn_picture.specs.JsonTokens.{span_tokens}
 use Rattle.tn_picture.specs.Views.{life_seen}
 use Rattle.tn_picture.proofs.JsonMembers.{three_written}
 use Rattle.tn_picture.proofs.json_picture.put_life.Goals as goal

@@ -10,5 +10,5 @@ returns-in-Ok-Accepted g c =
 
 pub returns-in-Ok-Refused : goal.returns-in-Ok-Refused
 returns-in-Ok-Refused g c =
-    prepared_refusal live_run (λ picks. Unit {0}) g.R.Read.remaining c.args.reader.now c.read_script.new.reader c.in-Ok-Refused.field-0 c.in-Ok-Refused.outcome c.in-Ok-Refused.line c.refusal_in.result
+    prepared_refusal live_run (λ picks. Unit {0}) g.R.Read.remaining c.args.reader.now c.read_script.new.reader c.in-Ok-Refused.field-0 c.in-Ok-Refused.outcome c.in-Ok-Refused.text c.refusal_in.result
     c.in-Ok-Refused.field-0-is c.in-Ok-Refused.ensures (search rules) c.refusal_in.ensures.fault

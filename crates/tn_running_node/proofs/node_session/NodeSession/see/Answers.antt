@@ -1,5 +1,4 @@
-use Rattle.std.proofs.Common.{◌∙◌, ◌++◌, ℕ, ap, map}
-use Rattle.std.specs.declared.vec.Vec.{Vec}
+use Rattle.std.proofs.Common.{◌∙◌, ap, map}
 use Rattle.std.specs.Option.{option_map}
 use Rattle.def_term.specs.Text.{w}
 use Rattle.tn_flags.specs.Views.{event_of, flags_of}
@@ -21,9 +20,8 @@ returns g c =
     let m = option_map message_seen c.in_ok-message.message in
     let r = node_run_seen c.args.run.now in
     let l = outlook_seen c.args.outlook in
-    sees_there c.args.run.now c.args.outlook c.args.event.now c.args.self.now _ c.push_messages.new.lines s t m
-    (c.in_ok-push_messages.ensures
-    ∙ ap (λ ls. map (λ (v : Vec ℕ _). v.items) ls ++ map w (run_messages_by r l (map node_mark_seen c.deref.result.now) (sight_view c.sight_after.result) e m)) c.new-lines.ensures.items
+    sees_there c.args.run.now c.args.outlook c.args.event.now c.args.here.now c.args.self.now _ c.in_ok-lines.lines s t m
+    (λ its. c.in_ok-lines.ensures c.in_ok-message.ensures.of_event its
     ∙ ap (λ ms. map w (run_messages_by r l (map node_mark_seen ms) (sight_view c.sight_after.result) e m)) c.deref.ensures.value
     ∙ ap (λ v. map w (run_messages_by r l (map node_mark_seen c.args.self.now.marks.items) v e m)) (c.sight_after.ensures ∙ ap (λ v. silent_by v t e) c.sight_before-before.ensures))
     c.in_ok-change_marks.ensures

@@ -9,5 +9,5 @@ returns-then-not-branch-clause-ok g c = λ o living p h.
 
 pub returns-clause-ok : goal.returns-clause-ok
 returns-clause-ok g c = λ o living p h.
-    saw_live o living c.args.step c.args.event.now p c.see_both.new.self c.in_ok-openness.openness c.args.out.now c.see_both.new.out c.in_ok-kinds.kinds (sym c.if-not-branch.false ∙ c.in_ok-is_live.ensures o living p h)
-    (c.in_ok-openness.ensures o living p h) (c.in_ok-kinds.ensures.ok o living p h)
+    saw_live o living c.args.step c.args.event.now p c.see_both.new.self c.in_ok-is_determined.is_determined c.args.out.now c.see_both.new.out c.in_ok-kinds.kinds (sym c.if-not-branch.false ∙ c.in_ok-is_live.ensures o living p h)
+    (c.in_ok-is_determined.ensures o living p h) (c.in_ok-kinds.ensures.ok o living p h)
