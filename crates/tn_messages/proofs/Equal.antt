@@ -2,11 +2,13 @@
 use Rattle.std.proofs.Common.{◌≡◌, ◌∙◌, Bool, true, false, List, [], ◌∷◌, map, refl, sym, ap}
 use Rattle.std.specs.Prelude.{◌&&◌, ◌↔◌, IsTrue}
 use Rattle.std.specs.Cmp.Lexicographic.{pointwise}
+use Rattle.std.specs.Arc.{arc_value}
+use Rattle.std.specs.declared.sync.Arc.{Arc}
 use Rattle.std.specs.declared.vec.Vec.{Vec}
 use Rattle.def_term.proofs.Same.{same-is, same-self}
 use Rattle.def_term.specs.Order.{same}
 use Rattle.def_explore.specs.Rests.{kept_messages, kept_by_process}
-use Rattle.tn_messages.specs.MessageViews.{message_tree, same_message, trees_seen, lists_seen, kept_seen}
+use Rattle.tn_messages.specs.MessageViews.{message_tree, same_message, trees_seen, lists_seen, trees_of_list, shared_lists, kept_seen}
 use Rattle.tn_messages.specs.declared.shared_message.SharedMessage.{SharedMessage}
 use Rattle.tn_messages.specs.declared.kept_listings.KeptListings.{KeptListings}
 use Rattle.tn_messages.specs.declared.kept_listings.KeptListings.TheVariants.{Total, ByProcess}
@@ -53,6 +55,10 @@ module _ {A : Type 0} where
 
   pub processes_test : IsTestOf (λ (v w : Vec (Vec (SharedMessage A) A) A). pointwise (λ x y. pointwise same_message x.items y.items) v.items w.items) lists_seen
   processes_test = lists_test (λ (x y : Vec (SharedMessage A) A). pointwise same_message x.items y.items) trees_seen trees_test
+
+  pub shared_test : IsTestOf (λ (v w : Vec (Arc (Vec (SharedMessage A) A) A) A). pointwise (λ (x y : Arc (Vec (SharedMessage A) A) A). pointwise same_message (arc_value x).items (arc_value y).items) v.items w.items) shared_lists
+  shared_test = lists_test (λ (x y : Arc (Vec (SharedMessage A) A) A). pointwise same_message (arc_value x).items (arc_value y).items) trees_of_list
+      (record { same = λ x y. trees_test.same (arc_value x) (arc_value y); holds = λ x y. trees_test.holds (arc_value x) (arc_value y) })
 
   module _ (test : KeptListings A → KeptListings A → Bool)
       (total : (v w : Vec (Vec (SharedMessage A) A) A) → test (Total v) (Total w) ≡ pointwise (λ x y. pointwise same_message x.items y.items) v.items w.items)

@@ -1,5 +1,5 @@
 -- One more message, by process.
-use Rattle.std.proofs.Common.{◌≡◌, ◌∙◌, ℕ, zero, suc, ◌+◌, ◌-◌, ◌<◌, ◌≤◌, Bool, true, false, List, [], ◌∷◌, ◌++◌, length, get_or, refl, ap, arith, cond, nat_lt, Option, Some, None}
+use Rattle.std.proofs.Common.{◌≡◌, ◌∙◌, ℕ, zero, suc, ◌+◌, ◌-◌, ◌<◌, ◌≤◌, Bool, true, false, List, [], ◌∷◌, ◌++◌, get_or, refl, ap, arith, cond, nat_lt, Option, Some, None}
 use Rattle.std.specs.Prelude.{filter, ◌==◌}
 use Rattle.std.proofs.Math.ListN.{set}
 use Rattle.std.proofs.lemmas.Bool.Decides.{nat_tests}
@@ -95,14 +95,3 @@ none_more ms m e = missed_all ms m 64 100 (λ j below. of_process (100 + j) m �
 
 pub one_more : (ms : List Tree) (m : Tree) (i : ℕ) → message_place m ≡ Some i → (i < 64) × (each_process all_pids (ms ++ m ∷ []) ≡ set (each_process all_pids ms) i (get_or (each_process all_pids ms) i [] ++ m ∷ []))
 one_more ms m i e = let h : (i < 64) × ((j : ℕ) → is_process (message_process m) j ≡ (100 + i == j)) = some_of (message_process m) i e in (h.0, passed_one ms m 64 100 i h.0 (λ j. of_process j m ∙ h.1 j))
-
-pass_length : (k n : ℕ) → length (pass_from k n) ≡ k
-pass_length zero n = refl
-pass_length (suc k) n = ap suc (pass_length k (n + 1))
-
-each_length : (ns : List ℕ) (ms : List Tree) → length (each_process ns ms) ≡ length ns
-each_length [] ms = refl
-each_length (n ∷ ns) ms = ap suc (each_length ns ms)
-
-pub lists_length : (ms : List Tree) → length (each_process all_pids ms) ≡ 64
-lists_length ms = each_length all_pids ms ∙ pass_length 64 100

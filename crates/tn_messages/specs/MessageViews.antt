@@ -1,6 +1,8 @@
 -- What is kept of messages.
 -- Depends on what is kept of the messages of a run.
-use Rattle.std.specs.Prelude.{◌≡◌, ℕ, ◌-◌, nat_lt, if◌then◌else◌, Bool, true, false, List, [], ◌∷◌, map, Option, Some, None}
+use Rattle.std.specs.Prelude.{◌≡◌, ℕ, ◌-◌, nat_lt, if◌then◌else◌, Bool, true, false, List, [], ◌∷◌, ◌++◌, map, length, replicate, Option, Some, None}
+use Rattle.std.specs.Arc.{arc_value}
+use Rattle.std.specs.declared.sync.Arc.{Arc}
 use Rattle.std.specs.declared.vec.Vec.{Vec}
 use Rattle.def_term.specs.Alive.{FIRST_PID, PROCESSES}
 use Rattle.def_term.specs.Tree.{Tree}
@@ -43,6 +45,13 @@ trees_seen v = map message_tree v.items
 abbrev pub lists_seen : {A : Type 0} → Vec (Vec (SharedMessage A) A) A → List (List Tree)
 lists_seen v = map trees_seen v.items
 
+-- those of shared lists
+abbrev pub trees_of_list : {A : Type 0} → Arc (Vec (SharedMessage A) A) A → List Tree
+trees_of_list list = trees_seen (arc_value list)
+
+abbrev pub shared_lists : {A : Type 0} → Vec (Arc (Vec (SharedMessage A) A) A) A → List (List Tree)
+shared_lists v = map trees_of_list v.items
+
 abbrev pub kept_seen : {A : Type 0} → KeptListings A → KeptMessages
 kept_seen (Total v) = kept_messages (map trees_seen v.items)
 kept_seen (ByProcess v) = kept_by_process (map lists_seen v.items)
@@ -61,11 +70,10 @@ kept_lists false mss = kept_messages mss
 
 -- ---- the messages of one session by process
 
--- no lists stand for empty ones
-abbrev pub lists_or_empty : List (List Tree) → List (List Tree)
-lists_or_empty [] = each_process all_pids []
-lists_or_empty (ms ∷ mss) = ms ∷ mss
+-- the lists, and empty ones after them, up to this many
+abbrev pub with_empty : ℕ → List (List Tree) → List (List Tree)
+with_empty n mss = mss ++ replicate (n - length mss) []
 
--- its lists are those of each process
+-- its lists are those of each process: those that it has not are empty
 abbrev pub AreByProcess : {A : Type 0} → MessagesByProcess A → List Tree → Type 0
-AreByProcess k ms = lists_or_empty (lists_seen k.lists) ≡ each_process all_pids ms
+AreByProcess k ms = with_empty PROCESSES (shared_lists k.lists) ≡ each_process all_pids ms

@@ -9,6 +9,7 @@ mod kept_listings;
 mod list;
 mod messages_by_process;
 mod run_filter;
+mod shared_list;
 mod shared_message;
 
 pub use kept_listings::KeptListings;

@@ -1,6 +1,6 @@
 // The messages of a session in their order.
 ghost use Rattle.std.specs.Prelude.{◌≡◌, ◌↔◌, IfOk, IsTrue};
-ghost use Rattle.tn_messages.specs.MessageViews.{trees_seen, lists_seen};
+ghost use Rattle.tn_messages.specs.MessageViews.{trees_seen};
 
 use crate::shared_message::SharedMessage;
 use std::alloc::{AllocError, Allocator};
@@ -29,16 +29,6 @@ pub fn share_messages<A: Allocator + Copy>(
 /// Whether both have the same messages in the same order.
 pub fn same_messages<A: Allocator>(one: &MessageList<A>, other: &MessageList<A>) -> bool
     ensures { IsTrue result ↔ (trees_seen one.now ≡ trees_seen other.now) }
-{
-    *one == *other
-}
-
-/// The same of lists of messages.
-pub(crate) fn same_lists<A: Allocator>(
-    one: &Vec<MessageList<A>, A>,
-    other: &Vec<MessageList<A>, A>,
-) -> bool
-    ensures { IsTrue result ↔ (lists_seen one.now ≡ lists_seen other.now) }
 {
     *one == *other
 }

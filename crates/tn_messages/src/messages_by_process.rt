@@ -1,53 +1,88 @@
 // The messages of a session by process.
-ghost use Rattle.std.specs.Prelude.{◌≡◌, [], IfOk};
-ghost use Rattle.def_explore.specs.Rests.{each_process, all_pids};
-ghost use Rattle.tn_messages.specs.MessageViews.{lists_seen, lists_or_empty, pid_place};
+ghost use Rattle.std.specs.Prelude.{◌≡◌, ◌<◌, ◌≤◌, length, IfOk, IfSome};
+ghost use Rattle.tn_messages.specs.MessageViews.{lists_seen, shared_lists, with_empty, pid_place};
 
-use crate::list::{MessageList, same_lists, share_messages};
+use crate::list::{MessageList, share_messages};
+use crate::shared_list::{SharedList, add_message, same_lists};
 use crate::shared_message::SharedMessage;
 use std::alloc::{AllocError, Allocator};
 use std::hash::{FoldHasher, Hash};
-use std::mem::replace;
+use std::sync::Arc;
 use tn_term::{FIRST_PID, PROCESSES};
 
 /// The messages of each process, by rising pid.
-pub(crate) type ProcessLists<A> = Vec<MessageList<A>, A>;
+type ProcessLists<A> = Vec<SharedList<A>, A>;
 
-/// The messages of a session: those of each of the processes 100 to 163 in their order. With no message yet there are
-/// no lists.
+/// The messages of a session: those of each of the processes 100 to 163 in their order. After the list of the last
+/// process that has a message there are none. A list may have several owners: it is copied before one of them
+/// changes it.
 #[derive(Drop)]
 pub struct MessagesByProcess<A: Allocator> {
     lists: ProcessLists<A>,
 }
 
-/// A list without messages for each process.
-fn no_messages<A: Allocator + Copy>(alloc: A) -> Result<ProcessLists<A>, AllocError>
-    ensures { IfOk result (λ v. lists_seen v ≡ each_process all_pids []) }
+/// Adds empty lists, up to this many.
+fn lengthen<A: Allocator + Copy>(
+    alloc: A,
+    lists: &mut ProcessLists<A>,
+    count: usize,
+) -> Result<(), AllocError>
+    ensures with_empty { IfOk result (λ _. shared_lists lists.new ≡ with_empty count (shared_lists lists.old)) }
+    ensures long { IfOk result (λ _. count ≤ length lists.new.items) }
 {
-    let mut lists = Vec::with_capacity(alloc, PROCESSES)?;
-    for _ in 0..PROCESSES {
-        lists.push(Vec::new(alloc))?;
+    for _ in lists.len()..count {
+        let list = Arc::new(alloc, Vec::new(alloc))?;
+        lists.push(list)?;
     }
-    Ok(lists)
+    Ok(())
 }
 
-/// The same messages, each with one owner more.
+/// The same lists, each with one owner more.
 fn share_lists<A: Allocator + Copy>(
     alloc: A,
     lists: &ProcessLists<A>,
 ) -> Result<ProcessLists<A>, AllocError>
-    ensures { IfOk result (λ v. lists_seen v ≡ lists_seen lists.now) }
+    ensures { IfOk result (λ v. shared_lists v ≡ shared_lists lists.now) }
 {
     let mut copies = Vec::with_capacity(alloc, lists.len())?;
-    for messages in lists {
-        copies.push(share_messages(alloc, messages)?)?;
+    for list in lists {
+        copies.push(Arc::try_clone(list)?)?;
     }
     Ok(copies)
 }
 
+/// The same messages, each with one owner more.
+fn share_all_messages<A: Allocator + Copy>(
+    alloc: A,
+    lists: &ProcessLists<A>,
+) -> Result<Vec<MessageList<A>, A>, AllocError>
+    ensures { IfOk result (λ v. lists_seen v ≡ shared_lists lists.now) }
+{
+    let mut copies = Vec::with_capacity(alloc, PROCESSES)?;
+    for list in lists {
+        copies.push(share_messages(alloc, list)?)?;
+    }
+    Ok(copies)
+}
+
+/// Adds empty lists, up to this many.
+fn pad<A: Allocator + Copy>(
+    alloc: A,
+    lists: &mut Vec<MessageList<A>, A>,
+    count: usize,
+) -> Result<(), AllocError>
+    ensures { IfOk result (λ _. lists_seen lists.new ≡ with_empty count (lists_seen lists.old)) }
+{
+    for _ in lists.len()..count {
+        lists.push(Vec::new(alloc))?;
+    }
+    Ok(())
+}
+
 /// The place of a pid among those that a run gives.
 fn place_of_pid(pid: Option<u32>) -> Option<usize>
-    ensures { result ≡ pid_place pid }
+    ensures place { result ≡ pid_place pid }
+    ensures within { IfSome result (λ i. i < 64) }
 {
     let pid = pid?;
     if pid < FIRST_PID {
@@ -55,20 +90,6 @@ fn place_of_pid(pid: Option<u32>) -> Option<usize>
     }
     let place = (pid - FIRST_PID) as usize;
     if place < PROCESSES { Some(place) } else { None }
-}
-
-/// The lists; empty ones where there are none.
-fn or_empty<A: Allocator + Copy>(
-    alloc: A,
-    lists: ProcessLists<A>,
-) -> Result<ProcessLists<A>, AllocError>
-    ensures { IfOk result (λ v. lists_seen v ≡ lists_or_empty (lists_seen lists)) }
-{
-    if lists.is_empty() {
-        no_messages(alloc)
-    } else {
-        Ok(lists)
-    }
 }
 
 impl<A: Allocator + Copy> MessagesByProcess<A> {
@@ -98,11 +119,8 @@ impl<A: Allocator + Copy> MessagesByProcess<A> {
         let Some(place) = place_of_pid(message.pid()) else {
             return Ok(());
         };
-        let lists = replace(&mut self.lists, Vec::new(alloc));
-        self.lists = or_empty(alloc, lists)?;
-        if place < self.lists.len() {
-            self.lists[place].push(message)?;
-        }
+        lengthen(alloc, &mut self.lists, place + 1)?;
+        add_message(alloc, &mut self.lists[place], message)?;
         Ok(())
     }
 
@@ -140,6 +158,8 @@ impl<A: Allocator + Copy> MessagesByProcess<A> {
     pub fn into_lists(self, alloc: A) -> Result<Vec<MessageList<A>, A>, AllocError>
         ensures { IfOk result (λ v. (ms : List Tree) → AreByProcess self ms → lists_seen v ≡ each_process all_pids ms) }
     {
-        or_empty(alloc, self.lists)
+        let mut lists = share_all_messages(alloc, &self.lists)?;
+        pad(alloc, &mut lists, PROCESSES)?;
+        Ok(lists)
     }
 }

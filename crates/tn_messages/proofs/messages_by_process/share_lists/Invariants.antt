@@ -1,6 +1,6 @@
 use Rattle.std.proofs.Common.{◌≡◌, map, take}
-use Rattle.tn_messages.specs.MessageViews.{trees_seen}
+use Rattle.tn_messages.specs.MessageViews.{trees_of_list}
 use Rattle.tn_messages.proofs.messages_by_process.share_lists.Given as goal
 
-abbrev pub invariant-loop-messages : goal.invariant-loop-messages
-invariant-loop-messages g l = map trees_seen l.copies.items ≡ map trees_seen (take l.messages-index l.messages-items)
+abbrev pub invariant-loop-list : goal.invariant-loop-list
+invariant-loop-list g l = map trees_of_list l.copies.items ≡ map trees_of_list (take l.list-index l.list-items)
