@@ -258,7 +258,7 @@ fn tuple_of_two<B: Allocator + Copy>(
     let mut items = Vec::with_capacity(alloc, 2)?;
     items.push(first)?;
     items.push(second)?;
-    Ok(Term::Tuple(items))
+    Ok(Term::tuple(items)?)
 }
 
 /// A tuple of three terms.
@@ -274,7 +274,7 @@ fn tuple_of_three<B: Allocator + Copy>(
     items.push(first)?;
     items.push(second)?;
     items.push(third)?;
-    Ok(Term::Tuple(items))
+    Ok(Term::tuple(items)?)
 }
 
 /// `{M,F,Arity}`
@@ -300,7 +300,7 @@ fn list_of<A: Allocator, B: Allocator + Copy>(
     for arg in args {
         copies.push(arg.term().copy_into(alloc)?)?;
     }
-    Ok(Term::List(copies))
+    Ok(Term::list(copies)?)
 }
 
 /// `{M,F,Args}`
