@@ -98,7 +98,6 @@ pub fn put_signal<A: Allocator + Copy>(
 pub fn part<A: Allocator + Copy>(
     one: &mut Process<A>,
     other: &mut Process<A>,
-    alloc: A,
     pid: u32,
     reason: &Term<A>,
 ) -> (Result<(), AllocError>, Result<(), AllocError>)
@@ -107,8 +106,8 @@ pub fn part<A: Allocator + Copy>(
     requires high { pid ≤ 163 }
     ensures { IfOk result.0 (λ _. IfOk result.1 (λ _. process_seen one.new ≡ process_seen other.new)) }
 {
-    let first = one.part(alloc, pid, reason);
-    let second = other.part(alloc, pid, reason);
+    let first = one.part(pid, reason);
+    let second = other.part(pid, reason);
     (first, second)
 }
 

@@ -48,3 +48,14 @@ pub fn copy_into<A: Allocator, B: Allocator + Copy>(
 {
     (one.copy_into(alloc), other.copy_into(alloc))
 }
+
+/// `tn_term::Atom::share` has one answer.
+pub fn share<A: Allocator + Copy>(
+    one: &Atom<A>,
+    other: &Atom<A>,
+) -> (Result<Atom<A>, AllocError>, Result<Atom<A>, AllocError>)
+    requires { one.now ≡ other.now }
+    ensures { IfOk result.0 (λ x. IfOk result.1 (λ y. x ≡ y)) }
+{
+    (one.share(), other.share())
+}

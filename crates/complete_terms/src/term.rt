@@ -1,11 +1,83 @@
 // Terms: copies, comparisons and measures.
+ghost use Rattle.std.specs.Arc.{arc_value};
 ghost use Rattle.std.specs.Prelude.{◌≡◌, IfOk, map};
 ghost use Rattle.def_term.specs.Atoms.{IsAtomText};
 ghost use Rattle.tn_term.specs.Views.{tree_of};
 
 use std::alloc::{AllocError, Allocator};
 use std::cmp::Ordering;
-use tn_term::{Term, copy_terms, same_terms};
+use std::sync::Arc;
+use tn_term::{Term, copy_terms, items_of, same_terms, share_terms};
+
+/// `tn_term::Term::tuple` has one answer.
+pub fn tuple<A: Allocator + Copy>(
+    one: Vec<Term<A>, A>,
+    other: Vec<Term<A>, A>,
+) -> (Result<Term<A>, AllocError>, Result<Term<A>, AllocError>)
+    requires { map tree_of one.items ≡ map tree_of other.items }
+    ensures { IfOk result.0 (λ x. IfOk result.1 (λ y. tree_of x ≡ tree_of y)) }
+{
+    let first = Term::tuple(one);
+    let second = Term::tuple(other);
+    (first, second)
+}
+
+/// `tn_term::Term::list` has one answer.
+pub fn list<A: Allocator + Copy>(
+    one: Vec<Term<A>, A>,
+    other: Vec<Term<A>, A>,
+) -> (Result<Term<A>, AllocError>, Result<Term<A>, AllocError>)
+    requires { map tree_of one.items ≡ map tree_of other.items }
+    ensures { IfOk result.0 (λ x. IfOk result.1 (λ y. tree_of x ≡ tree_of y)) }
+{
+    let first = Term::list(one);
+    let second = Term::list(other);
+    (first, second)
+}
+
+/// `tn_term::Term::share` has one answer.
+pub fn share<A: Allocator + Copy>(
+    one: &Term<A>,
+    other: &Term<A>,
+) -> (Result<Term<A>, AllocError>, Result<Term<A>, AllocError>)
+    requires { tree_of one.now ≡ tree_of other.now }
+    ensures { IfOk result.0 (λ x. IfOk result.1 (λ y. tree_of x ≡ tree_of y)) }
+{
+    let first = one.share();
+    let second = other.share();
+    (first, second)
+}
+
+/// `tn_term::share_terms` has one answer.
+pub fn shares<A: Allocator + Copy>(
+    items: &[Term<A>],
+    alloc: A,
+) -> (
+    Result<Vec<Term<A>, A>, AllocError>,
+    Result<Vec<Term<A>, A>, AllocError>,
+)
+    ensures { IfOk result.0 (λ x. IfOk result.1 (λ y. map tree_of x.items ≡ map tree_of y.items)) }
+{
+    let first = share_terms(items, alloc);
+    let second = share_terms(items, alloc);
+    (first, second)
+}
+
+/// `tn_term::items_of` has one answer.
+pub fn items<A: Allocator + Copy>(
+    one: Arc<Vec<Term<A>, A>, A>,
+    other: Arc<Vec<Term<A>, A>, A>,
+) -> (
+    Result<Vec<Term<A>, A>, AllocError>,
+    Result<Vec<Term<A>, A>, AllocError>,
+)
+    requires { map tree_of (arc_value one).items ≡ map tree_of (arc_value other).items }
+    ensures { IfOk result.0 (λ x. IfOk result.1 (λ y. map tree_of x.items ≡ map tree_of y.items)) }
+{
+    let first = items_of(one);
+    let second = items_of(other);
+    (first, second)
+}
 
 /// `tn_term::Term::copy_into` has one answer.
 pub fn copy_into<A: Allocator, B: Allocator + Copy>(

@@ -61,7 +61,7 @@ pub fn execute_twice<R: Print>(rt: &R, inputs: &Inputs<'_>) -> Option<()> {
     let spec = or_say(rt, "specification", spec_of(alloc, &term, dialect))?;
     let code = or_say(rt, "code", compile(alloc, &spec))?;
     if let Term::List(list) = &list {
-        say_outcomes(rt, alloc, &code, list);
+        say_outcomes(rt, alloc, &code, &**list);
     }
     Some(())
 }

@@ -60,7 +60,7 @@ fn call_in_list<'a, A: Allocator>(term: &'a Term<A>) -> Option<CallShape<'a, A>>
     ensures { call_shapes_seen result ≡ call_in_list (tree_of term.now) }
 {
     match term {
-        Term::List(elements) => call_of_elements(elements),
+        Term::List(elements) => call_of_elements(&**elements),
         Term::Int(_) | Term::Atom(_) | Term::Pid(_) | Term::Tuple(_) => None,
     }
 }
@@ -105,7 +105,7 @@ fn list_in_two<'a, A: Allocator>(
     ensures { lists_as_calls_seen result ≡ list_in_two (tree_of conditions.now) (tree_of body.now) }
 {
     match (conditions, body) {
-        (Term::List(conditions), Term::List(body)) => list_in_parts(conditions, body),
+        (Term::List(conditions), Term::List(body)) => list_in_parts(&**conditions, &**body),
         _ => None,
     }
 }
@@ -125,7 +125,7 @@ fn list_in_clause<'a, A: Allocator>(term: &'a Term<A>) -> Option<ListAsCall<'a, 
     ensures { lists_as_calls_seen result ≡ list_in_clause (tree_of term.now) }
 {
     match term {
-        Term::Tuple(fields) => list_in_fields(fields),
+        Term::Tuple(fields) => list_in_fields(&**fields),
         Term::Int(_) | Term::Atom(_) | Term::Pid(_) | Term::List(_) => None,
     }
 }
@@ -153,7 +153,7 @@ pub(crate) fn list_as_call<'a, A: Allocator>(
     ensures { counted_lists_seen result ≡ list_as_call (tree_of term.now) }
 {
     match term {
-        Term::List(clauses) => list_in_clauses(clauses),
+        Term::List(clauses) => list_in_clauses(&**clauses),
         Term::Int(_) | Term::Atom(_) | Term::Pid(_) | Term::Tuple(_) => None,
     }
 }

@@ -237,7 +237,7 @@ fn option_hint<A: Allocator>(term: &Term<A>) -> &'static [u8]
     ensures { result.now ≡ option_hint_text (tree_of term.now) }
 {
     match term {
-        Term::List(terms) => other_options(terms),
+        Term::List(terms) => other_options(&**terms),
         _ => b"",
     }
 }

@@ -75,7 +75,7 @@ fn flags_reason<'a, A: Allocator>(flags: &'a Term<A>) -> Option<CommandReason<'a
     ensures { command_reasons_seen result ≡ flags_reason (tree_of flags.now) }
 {
     match flags {
-        Term::List(items) => match other_than_flag(items) {
+        Term::List(items) => match other_than_flag(&**items) {
             Some(term) => Some(CommandReason::NoFlag(term)),
             None => None,
         },

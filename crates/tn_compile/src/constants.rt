@@ -49,8 +49,8 @@ fn constant_of<P: Allocator, A: Allocator + Copy>(
     match pattern {
         Pattern::Variable(_) | Pattern::Anything => unreachable!(),
         Pattern::Only(term) => Ok(term.copy_into(alloc)?),
-        Pattern::Tuple(patterns) => Ok(Term::Tuple(constants_of(alloc, patterns)?)),
-        Pattern::List(patterns) => Ok(Term::List(constants_of(alloc, patterns)?)),
+        Pattern::Tuple(patterns) => Ok(Term::tuple(constants_of(alloc, patterns)?)?),
+        Pattern::List(patterns) => Ok(Term::list(constants_of(alloc, patterns)?)?),
     }
 }
 
@@ -71,12 +71,15 @@ pub fn constants_of<P: Allocator, A: Allocator + Copy>(
     Ok(terms)
 }
 
-/// A tuple or list of the terms.
-pub fn term_of<A: Allocator>(kind: Kind, terms: Vec<Term<A>, A>) -> Term<A>
-    ensures { tree_of result ≡ shape_term kind (trees_of terms.items) }
+/// A tuple or list of the terms. An error is refused memory.
+pub fn term_of<A: Allocator + Copy>(
+    kind: Kind,
+    terms: Vec<Term<A>, A>,
+) -> Result<Term<A>, AllocError>
+    ensures { IfOk result (λ t. tree_of t ≡ shape_term kind (trees_of terms.items)) }
 {
     match kind {
-        Kind::Tuple => Term::Tuple(terms),
-        Kind::List => Term::List(terms),
+        Kind::Tuple => Ok(Term::tuple(terms)?),
+        Kind::List => Ok(Term::list(terms)?),
     }
 }

@@ -77,7 +77,8 @@ fn fold_shape<A: Allocator + Copy>(
 {
     if are_constants(exprs.as_slice()) {
         let terms = constant_terms(alloc, exprs)?;
-        return Ok(Expr::Constant(term_of(kind, terms)));
+        let term = term_of(kind, terms)?;
+        return Ok(Expr::Constant(term));
     }
     match kind {
         Kind::Tuple => Ok(Expr::Tuple(exprs)),

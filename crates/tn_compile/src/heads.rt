@@ -130,7 +130,8 @@ pub fn walk_parts<P: Allocator, A: Allocator + Copy>(
 {
     if are_constant(patterns) {
         let terms = constants_of(alloc, patterns)?;
-        Ok(compare(head, term_of(kind, terms), register)?)
+        let term = term_of(kind, terms)?;
+        Ok(compare(head, term, register)?)
     } else {
         head.steps.push(Instr::TestKind {
             from: register,

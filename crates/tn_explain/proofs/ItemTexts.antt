@@ -8,9 +8,9 @@ use Rattle.def_term.specs.Names.{Name}
 use Rattle.def_term.specs.Text.{w, is_written_bare, atom_text, each_after_comma}
 use Rattle.def_script.specs.Program.{create, destroy, set_processes, set_function, set_send, set_receive}
 use Rattle.def_explain.specs.RunTexts.{command_term, after_first}
-use Rattle.tn_term.specs.Views.{tree_of}
-use Rattle.tn_term.proofs.Views.{tree_of_tuple, elements-of_elements}
-use Rattle.tn_term.specs.declared.term.Term.{Term, Tuple}
+use Rattle.tn_term.specs.Views.{tree_of, trees_of}
+use Rattle.tn_term.proofs.Views.{elements-of_elements}
+use Rattle.tn_term.specs.declared.term.Term.{Term}
 use Rattle.tn_explain.specs.Elements.{term_elements}
 use Rattle.tn_explain.proofs.MoveTexts.{twice}
 
@@ -93,8 +93,8 @@ pub message_elements : (t : Tree) (ts : List Tree) (o b : List ℕ) → t ≡ tu
 message_elements t ts o b is written = written ∙ ap (λ u. o ++ after_first (term_elements u)) is ∙ ap (λ us. o ++ after_first us) (elements_again ts)
 
 -- those of a tuple
-pub tuple_elements : {A : Type 0} (v : Vec (Term A) A) → after_first (map tree_of v.items) ≡ after_first (term_elements (tree_of (Tuple v)))
-tuple_elements v = sym (ap (λ t. after_first (term_elements t)) (tree_of_tuple v) ∙ ap after_first (elements-of_elements (map tree_of v.items)))
+pub tuple_elements : {A : Type 0} (t : Term A) (v : Vec (Term A) A) → tree_of t ≡ tuple (trees_of v.items) → after_first (map tree_of v.items) ≡ after_first (term_elements (tree_of t))
+tuple_elements t v is = sym (ap (λ u. after_first (term_elements u)) is ∙ ap after_first (elements-of_elements (map tree_of v.items)))
 
 -- ---- elements after the first
 
@@ -118,6 +118,6 @@ if_written (Ok v) now full same h = h
 if_written (Err e) now full same h = tt
 
 -- what stands there once the elements of a tuple are written
-pub tuple_written : {A : Type 0} (t : Term A) (v : Vec (Term A) A) (xs : List (Term A)) (o b : List ℕ) → t ≡ Tuple v → xs ≡ v.items → b ≡ o ++ after_first (map tree_of xs) → b ≡ o ++ after_first (term_elements (tree_of t))
+pub tuple_written : {A : Type 0} (t : Term A) (v : Vec (Term A) A) (xs : List (Term A)) (o b : List ℕ) → tree_of t ≡ tuple (trees_of v.items) → xs ≡ v.items → b ≡ o ++ after_first (map tree_of xs) → b ≡ o ++ after_first (term_elements (tree_of t))
 tuple_written t v xs o b is same written =
-    written ∙ ap (λ ys. o ++ after_first (map tree_of ys)) same ∙ ap (λ l. o ++ l) (tuple_elements v) ∙ ap (λ u. o ++ after_first (term_elements (tree_of u))) (sym is)
+    written ∙ ap (λ ys. o ++ after_first (map tree_of ys)) same ∙ ap (λ l. o ++ l) (tuple_elements t v is)

@@ -150,7 +150,7 @@ fn put_message<A: Allocator, B: Allocator>(
     ensures grows { Grows out.old.items out.new.items }
 {
     match term {
-        Term::Tuple(elements) => put_elements(elements, out),
+        Term::Tuple(elements) => put_elements(&**elements, out),
         _ => Ok(()),
     }
 }

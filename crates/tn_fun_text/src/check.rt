@@ -140,8 +140,8 @@ pub fn check_expr<'a, A: Allocator + Copy>(
         Term::Int(_) => Ok(()),
         Term::Atom(name) => check_atom(name),
         Term::Pid(pid) => Err(CheckFault::Reason(Reason::Pid(*pid))),
-        Term::List(terms) => check_list(scope, terms),
-        Term::Tuple(terms) => check_tuple(scope, terms, term),
+        Term::List(terms) => check_list(scope, &**terms),
+        Term::Tuple(terms) => check_tuple(scope, &**terms, term),
     }
 }
 
@@ -175,7 +175,7 @@ fn check_tuple<'a, A: Allocator + Copy>(
     match &terms[0] {
         Term::Tuple(inner) => {
             if terms.len() == 1 {
-                check_from(scope, inner, 0)
+                check_from(scope, &**inner, 0)
             } else {
                 Err(CheckFault::Reason(Reason::NoCall("", terms.len())))
             }

@@ -163,7 +163,7 @@ fn check_clause<'a, A: Allocator + Copy>(
     ensures { IsClauseChecked (clause_printed (dialect_of dialect) clause (tree_of term.now)) result }
 {
     match term {
-        Term::Tuple(fields) => check_fields(alloc, dialect, clause, fields),
+        Term::Tuple(fields) => check_fields(alloc, dialect, clause, &**fields),
         _ => Err(in_part(clause, ClausePart::Head, Reason::NoCall("", 0))),
     }
 }

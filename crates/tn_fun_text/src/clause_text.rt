@@ -105,7 +105,7 @@ fn put_clause<A: Allocator + Copy>(
     ensures { OnOk result (out.new.items ≡ out.old.items ++ fun_clause_text (dialect_of dialect) (tree_of term.now)) }
 {
     match term {
-        Term::Tuple(fields) => put_fields(alloc, dialect, fields, out),
+        Term::Tuple(fields) => put_fields(alloc, dialect, &**fields, out),
         _ => Ok(()),
     }
 }

@@ -105,8 +105,8 @@ fn put_expr<A: Allocator + Copy>(
         Term::Int(n) => write_decimal(*n, out),
         Term::Atom(name) => put_expr_atom(name, out),
         Term::Pid(_) => Ok(()),
-        Term::List(terms) => put_list(scope, keeps, terms, out),
-        Term::Tuple(terms) => put_tuple(scope, level, keeps, terms, out),
+        Term::List(terms) => put_list(scope, keeps, &**terms, out),
+        Term::Tuple(terms) => put_tuple(scope, level, keeps, &**terms, out),
     }
 }
 
@@ -150,7 +150,7 @@ fn put_tuple<A: Allocator + Copy>(
     match &terms[0] {
         Term::Tuple(inner) => {
             if terms.len() == 1 {
-                put_elements(scope, keeps, inner, out)
+                put_elements(scope, keeps, &**inner, out)
             } else {
                 Ok(())
             }

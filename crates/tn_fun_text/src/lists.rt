@@ -16,7 +16,7 @@ pub fn elements<A: Allocator>(term: &Term<A>) -> Option<&Vec<Term<A>, A>>
     ensures { option_map (λ v. trees_of v.now.items) result ≡ list_elements (tree_of term.now) }
 {
     match term {
-        Term::List(terms) => Some(terms),
+        Term::List(terms) => Some(&**terms),
         _ => None,
     }
 }
@@ -56,8 +56,8 @@ pub fn has_list<A: Allocator>(term: &Term<A>) -> bool
     ensures { result ≡ has_a_list (tree_of term.now) }
 {
     match term {
-        Term::List(terms) => !is_text(terms),
-        Term::Tuple(terms) => tuple_has_list(terms),
+        Term::List(terms) => !is_text(&**terms),
+        Term::Tuple(terms) => tuple_has_list(&**terms),
         Term::Int(_) | Term::Atom(_) | Term::Pid(_) => false,
     }
 }
@@ -71,7 +71,7 @@ fn tuple_has_list<A: Allocator>(terms: &Vec<Term<A>, A>) -> bool
         return false;
     }
     match &terms[0] {
-        Term::Tuple(inner) => has_list_from(inner, 0),
+        Term::Tuple(inner) => has_list_from(&**inner, 0),
         Term::Int(_) | Term::Atom(_) | Term::Pid(_) | Term::List(_) => false,
     }
 }

@@ -100,8 +100,8 @@ fn check_pattern<'a, A: Allocator>(greatest: u16, term: &'a Term<A>) -> Result<u
         Term::Int(_) => Ok(greatest),
         Term::Atom(name) => check_pattern_atom(greatest, name),
         Term::Pid(pid) => Err(Reason::Pid(*pid)),
-        Term::Tuple(terms) => check_patterns(greatest, terms),
-        Term::List(terms) => check_list_pattern(greatest, terms),
+        Term::Tuple(terms) => check_patterns(greatest, &**terms),
+        Term::List(terms) => check_list_pattern(greatest, &**terms),
     }
 }
 

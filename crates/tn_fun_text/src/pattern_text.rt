@@ -35,8 +35,8 @@ fn put_pattern<A: Allocator>(term: &Term<A>, out: &mut Vec<u8, A>) -> Result<(),
         Term::Int(n) => write_decimal(*n, out),
         Term::Atom(name) => put_pattern_atom(name, out),
         Term::Pid(_) => Ok(()),
-        Term::Tuple(terms) => put_patterns(b"{", terms, b"}", out),
-        Term::List(terms) => put_list_pattern(terms, out),
+        Term::Tuple(terms) => put_patterns(b"{", &**terms, b"}", out),
+        Term::List(terms) => put_list_pattern(&**terms, out),
     }
 }
 

@@ -124,8 +124,8 @@ fn value_of<A: Allocator + Copy>(
         Term::Int(n) => Ok(Some(Term::Int(*n))),
         Term::Atom(name) => value_of_atom(scope.alloc, name),
         Term::Pid(_) => Ok(None),
-        Term::List(terms) => value_of_list(scope, terms),
-        Term::Tuple(terms) => value_of_tuple(scope, terms),
+        Term::List(terms) => value_of_list(scope, &**terms),
+        Term::Tuple(terms) => value_of_tuple(scope, &**terms),
     }
 }
 
@@ -141,7 +141,7 @@ fn value_of_list<A: Allocator + Copy>(
         return Ok(None);
     }
     match values_from(scope, terms, 0)? {
-        Some(values) => Ok(Some(Term::List(values))),
+        Some(values) => Ok(Some(Term::list(values)?)),
         None => Ok(None),
     }
 }
@@ -160,7 +160,7 @@ fn value_of_tuple<A: Allocator + Copy>(
     match &terms[0] {
         Term::Tuple(inner) => {
             if terms.len() == 1 {
-                value_of_elements(scope, inner)
+                value_of_elements(scope, &**inner)
             } else {
                 Ok(None)
             }
@@ -179,7 +179,7 @@ fn value_of_elements<A: Allocator + Copy>(
     ensures { IfOk result (λ v. constant_seen v ≡ elements_value_at scope terms.now) }
 {
     match values_from(scope, terms, 0)? {
-        Some(values) => Ok(Some(Term::Tuple(values))),
+        Some(values) => Ok(Some(Term::tuple(values)?)),
         None => Ok(None),
     }
 }

@@ -36,13 +36,13 @@ fn copy_value<A: Allocator, B: Allocator + Copy>(
 {
     match value {
         Value::Lent(term) => Ok(term.copy_into(alloc)?),
-        Value::Rest(items) => Ok(Term::List(copy_terms(items, alloc)?)),
+        Value::Rest(items) => Ok(Term::list(copy_terms(items, alloc)?)?),
         Value::Name(name) => Ok(Term::Atom(name.copy_into(alloc)?)),
         Value::Int(n) => Ok(Term::Int(n)),
         Value::Pid(n) => Ok(Term::Pid(n)),
         Value::AtomConst(word) => Ok(Term::Atom(word.copy_into(alloc)?)),
-        Value::Tuple(items) => Ok(Term::Tuple(copy_values(items, alloc)?)),
-        Value::List(items) => Ok(Term::List(copy_values(items, alloc)?)),
+        Value::Tuple(items) => Ok(Term::tuple(copy_values(items, alloc)?)?),
+        Value::List(items) => Ok(Term::list(copy_values(items, alloc)?)?),
     }
 }
 

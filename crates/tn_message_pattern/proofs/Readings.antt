@@ -11,9 +11,7 @@ use Rattle.tn_head.specs.declared.bindings.Binding.{Binding}
 use Rattle.tn_message_pattern.specs.Readings.{head_of_one}
 use Rattle.std.specs.declared.vec.Vec.{Vec}
 use Rattle.tn_term.specs.Views.{tree_of, trees_of}
-use Rattle.tn_term.proofs.Views.{tree_of_list}
 use Rattle.tn_term.specs.declared.term.Term.{Term}
-use Rattle.tn_term.specs.declared.term.Term.TheVariants as code
 use Rattle.tn_spec.specs.declared.pattern.Pattern as code_pattern
 use Rattle.tn_spec.specs.Views.{pattern_seen, patterns_seen}
 use Rattle.std.specs.Option.{option_map}
@@ -34,8 +32,8 @@ pub match_is : {A B : Type 0} (p : Pattern) (t : Tree) (m : Bool) (old : List (B
 match_is p t m old new empty is = sym (bound m new) ∙ sym (ap is_some is) ∙ ap (λ bs. is_some (bind_on p t (map binding_seen bs))) empty
 
 -- the list of one term
-pub list_of_one : {A : Type 0} (v : Vec (Term A) A) (x t : Term A) → v.items ≡ x ∷ [] → tree_of x ≡ tree_of t → tree_of (code.List v) ≡ list (more (tree_of t) none)
-list_of_one v x t items same = tree_of_list v ∙ ap (λ xs. list (trees_of xs)) items ∙ ap (λ y. list (more y none)) same
+pub list_of_one : {A : Type 0} (l : Tree) (v : Vec (Term A) A) (x t : Term A) → l ≡ list (trees_of v.items) → v.items ≡ x ∷ [] → tree_of x ≡ tree_of t → l ≡ list (more (tree_of t) none)
+list_of_one l v x t made items same = made ∙ ap (λ xs. list (trees_of xs)) items ∙ ap (λ y. list (more y none)) same
 
 abbrev first_pattern : Pattern → Pattern
 first_pattern (in_list (and_pattern p ps)) = p

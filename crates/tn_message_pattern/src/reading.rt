@@ -32,8 +32,9 @@ fn head_of_one<A: Allocator + Copy>(alloc: A, term: &Term<A>) -> Result<Head<A>,
     ensures { IsRead head_seen (head_of_one (tree_of term.now)) result }
 {
     let mut items = Vec::new(alloc);
-    items.push(term.copy_into(alloc)?)?;
-    head(alloc, &Term::List(items))
+    items.push(term.share()?)?;
+    let list = Term::list(items)?;
+    head(alloc, &list)
 }
 
 /// The pattern of a head that is a list of one.

@@ -40,7 +40,7 @@ pub fn message_process<A: Allocator>(term: &Term<A>) -> Option<u32>
     ensures { result ≡ message_process (tree_of term.now) }
 {
     match term {
-        Term::Tuple(items) => second_pid(items),
+        Term::Tuple(items) => second_pid(&**items),
         _ => None,
     }
 }

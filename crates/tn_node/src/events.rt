@@ -9,7 +9,7 @@ ghost use Rattle.tn_node.specs.NodeEvents.{seen_events, events_of_spawn, parting
 use std::alloc::{AllocError, Allocator};
 use tn_flags::{Event, own_arguments, share_arguments};
 use tn_script::Entry;
-use tn_term::{FIRST_PID, Mfa, Term, copy_terms};
+use tn_term::{FIRST_PID, Mfa, Term, share_terms};
 
 /// The module, the name and the number of arguments of an entry call.
 fn entry_mfa<A: Allocator + Copy>(alloc: A, entry: &Entry<A>) -> Result<Mfa<A>, AllocError>
@@ -31,7 +31,7 @@ pub fn start_events<A: Allocator + Copy>(
 ) -> Result<Vec<Event<A>, A>, AllocError>
     ensures { IfOk result (λ es. map event_of es.items ≡ events_of_spawn pid child (entry_of entry.now)) }
 {
-    let args = own_arguments(alloc, copy_terms(&entry.args.terms, alloc)?)?;
+    let args = own_arguments(alloc, share_terms(&entry.args.terms, alloc)?)?;
     let mut events = Vec::new(alloc);
     events.push(Event::Spawn {
         pid,

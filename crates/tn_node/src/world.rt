@@ -135,7 +135,7 @@ impl<A: Allocator + Copy> World<A> {
     }
 
     /// The process with this pid, a partner of the one at this place, has ended.
-    fn part(&mut self, alloc: A, place: usize, pid: u32, reason: &Term<A>) -> Result<(), AllocError>
+    fn part(&mut self, place: usize, pid: u32, reason: &Term<A>) -> Result<(), AllocError>
         requires place_within { place < length self.old.slots.items }
         requires low { 100 ≤ pid }
         requires high { pid ≤ 163 }
@@ -145,7 +145,7 @@ impl<A: Allocator + Copy> World<A> {
         match &mut self.slots[place] {
             Some(owner) => {
                 let process = Arc::make_mut(owner)?;
-                process.part(alloc, pid, reason)?;
+                process.part(pid, reason)?;
                 Ok(())
             }
             None => Ok(()),
@@ -310,7 +310,6 @@ impl<A: Allocator + Copy> World<A> {
     /// Each partner of the process with this pid loses the link, and gets the exit signal where one is due.
     fn tell_partners(
         &mut self,
-        alloc: A,
         pid: u32,
         partners: &[bool; 64],
         reason: &Term<A>,
@@ -323,7 +322,7 @@ impl<A: Allocator + Copy> World<A> {
             if !partners[place] {
                 continue;
             }
-            self.part(alloc, place, pid, reason)?;
+            self.part(place, pid, reason)?;
         }
         Ok(())
     }
@@ -331,7 +330,6 @@ impl<A: Allocator + Copy> World<A> {
     /// The process with this pid, at this place, is there no more, and its partners are told.
     fn vacate(
         &mut self,
-        alloc: A,
         place: usize,
         pid: u32,
         partners: &[bool; 64],
@@ -342,14 +340,13 @@ impl<A: Allocator + Copy> World<A> {
         ensures { IfOk result (λ _. slots_of self.new ≡ vacated_at self.old place pid partners.now reason.now) }
     {
         self.slots[place] = None;
-        self.tell_partners(alloc, pid, partners, reason)?;
+        self.tell_partners(pid, partners, reason)?;
         Ok(())
     }
 
     /// The process with this pid, at this place, ends after these events.
     fn finish(
         &mut self,
-        alloc: A,
         place: usize,
         pid: u32,
         partners: &[bool; 64],
@@ -360,7 +357,7 @@ impl<A: Allocator + Copy> World<A> {
         requires at { pid ≡ 100 + place }
         ensures { Moves self.new result (ends_at self.old place pid partners.now reason events) }
     {
-        self.vacate(alloc, place, pid, partners, &reason)?;
+        self.vacate(place, pid, partners, &reason)?;
         Ok(exit_events(pid, partners, reason, events)?)
     }
 
@@ -437,7 +434,7 @@ impl<A: Allocator + Copy> World<A> {
             Act::Spawns { child, entry } => Ok(Some(self.start(alloc, pid, child, entry)?)),
             Act::Exits { reason, events } => {
                 let partners = self.partners(place);
-                Ok(Some(self.finish(alloc, place, pid, &partners, reason, events)?))
+                Ok(Some(self.finish(place, pid, &partners, reason, events)?))
             }
         }
     }

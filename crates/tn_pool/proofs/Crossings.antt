@@ -12,6 +12,8 @@ use Rattle.std.specs.declared.hash.BuildHasher as build_hasher
 use Rattle.std.specs.declared.hash.Hasher as hasher
 use Rattle.std.specs.contracts.hash.BuildHasherDefault as hashing
 use Rattle.std.proofs.hash.FoldHasher.TheSendSync as folding_sent
+use Rattle.std.specs.contracts.sync.Arc as arc
+use Rattle.std.specs.contracts.vec.Vec as vec
 use Rattle.std.proofs.CrossingOver.{crosses}
 use Rattle.tn_term.proofs.term.Term.TheLaws.TheKnot as term_knot
 use Rattle.tn_spec.proofs.expr.Expr.TheLaws.TheKnot as expr_knot
@@ -108,13 +110,7 @@ module _ (T : RattleType) (g : Ghosts T.Denot) (s : IsSend T) (f : Frees g g.dea
   mfa_field_send : IsSend (mfa.the_field T g).row
   mfa_field_send = search (sendable, crosses, atom_send, atom_field_send, mfa_send) depth 40 fits 3000 parts 0
 
-  term_send : IsSend (term.the_row T g)
-  term_send = search (sendable, crosses, atom_send, atom_field_send, term_knot.send-Term) depth 40 fits 3000 parts 0
-
-  term_field_send : IsSend (term.the_field T g).row
-  term_field_send = search (sendable, crosses, atom_send, atom_field_send, term_knot.send-Term, term_send) depth 40 fits 3000 parts 0
-
-  -- a term with several owners, of which each thread reads it
+  -- an atom, of which each thread reads it
   atom_sync : IsSync (atom.the_row T g)
   atom_sync = search (sendable, crosses) depth 40 fits 3000 parts 0
 
@@ -127,11 +123,26 @@ module _ (T : RattleType) (g : Ghosts T.Denot) (s : IsSend T) (f : Frees g g.dea
   mfa_field_sync : IsSync (mfa.the_field T g).row
   mfa_field_sync = search (sendable, crosses, atom_sync, atom_field_sync, mfa_sync) depth 40 fits 3000 parts 0
 
-  term_sync : IsSync (term.the_row T g)
-  term_sync = search (sendable, crosses, atom_sync, atom_field_sync, term_knot.sync-Term) depth 40 fits 3000 parts 0
+  -- the elements of a tuple or a list, which several terms own
+  elements_send : (R : RattleType) → IsSend R → IsSync R → IsSend (arc.the_row (vec.the_row R T g) T g)
+  elements_send R sent shared = search (sendable, crosses) depth 40 fits 3000 parts 0
+
+  elements_sync : (R : RattleType) → IsSend R → IsSync R → IsSync (arc.the_row (vec.the_row R T g) T g)
+  elements_sync R sent shared = search (sendable, crosses) depth 40 fits 3000 parts 0
+
+  term_field_send : IsSend (term.the_field T g).row
+  term_field_send =
+      term_knot.both_send-Term T g (search sendable) (search sendable) atom_field_send atom_field_sync (search sendable) (search sendable) elements_send elements_sync
 
   term_field_sync : IsSync (term.the_field T g).row
-  term_field_sync = search (sendable, crosses, atom_sync, atom_field_sync, term_knot.sync-Term, term_sync) depth 40 fits 3000 parts 0
+  term_field_sync =
+      term_knot.both_sync-Term T g (search sendable) (search sendable) atom_field_send atom_field_sync (search sendable) (search sendable) elements_send elements_sync
+
+  term_send : IsSend (term.the_row T g)
+  term_send = search (sendable, crosses, term_field_send) depth 40 fits 3000 parts 0
+
+  term_sync : IsSync (term.the_row T g)
+  term_sync = search (sendable, crosses, term_field_sync) depth 40 fits 3000 parts 0
 
   shared_send : IsSend (shared.the_row T g)
   shared_send = search (sendable, crosses, term_send, term_field_send, term_sync, term_field_sync) depth 40 fits 3000 parts 0

@@ -26,13 +26,13 @@ pub struct Exception<A: Allocator> {
 }
 
 /// `{One,Other}`
-fn pair<A: Allocator>(alloc: A, one: Term<A>, other: Term<A>) -> Result<Term<A>, AllocError>
+fn pair<A: Allocator + Copy>(alloc: A, one: Term<A>, other: Term<A>) -> Result<Term<A>, AllocError>
     ensures { IfOk result (λ t. tree_of t ≡ tuple (of_elements (tree_of one ∷ tree_of other ∷ []))) }
 {
     let mut fields = Vec::new(alloc);
     fields.push(one)?;
     fields.push(other)?;
-    Ok(Term::Tuple(fields))
+    Ok(Term::tuple(fields)?)
 }
 
 impl<A: Allocator + Copy> Exception<A> {
@@ -40,9 +40,9 @@ impl<A: Allocator + Copy> Exception<A> {
     fn into_reason(self, alloc: A) -> Result<Term<A>, AllocError>
         ensures { IfOk result (λ t. tree_of t ≡ exit_reason (class_of self.class) (shared_tree self.value)) }
     {
-        let value = self.value.term().copy_into(alloc)?;
+        let value = self.value.term().share()?;
         match self.class {
-            Class::Error => pair(alloc, value, Term::List(Vec::new(alloc))),
+            Class::Error => pair(alloc, value, Term::list(Vec::new(alloc))?),
             _ => Ok(value),
         }
     }
@@ -106,8 +106,8 @@ impl<A: Allocator + Copy> Process<A> {
     {
         if class == Class::Throw && !self.is_caught() {
             let word = Term::word(alloc, "nocatch")?;
-            let copy = value.term().copy_into(alloc)?;
-            let tagged = pair(alloc, word, copy)?;
+            let held = value.term().share()?;
+            let tagged = pair(alloc, word, held)?;
             let value = SharedTerm::new(alloc, tagged)?;
             return Ok(Exception {
                 class: Class::Error,

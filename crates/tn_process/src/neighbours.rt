@@ -73,14 +73,14 @@ impl<A: Allocator + Copy> Process<A> {
     }
 
     /// The process with this pid, to which it was linked, has ended with this reason.
-    pub fn part(&mut self, alloc: A, pid: u32, reason: &Term<A>) -> Result<(), AllocError>
+    pub fn part(&mut self, pid: u32, reason: &Term<A>) -> Result<(), AllocError>
         requires low { 100 ≤ pid }
         requires high { pid ≤ 163 }
         ensures { IfOk result (λ _. process_seen self.new ≡ part pid (tree_of reason.now) (process_seen self.old)) }
     {
         self.set_link(pid, false);
         if !reason.is_word("normal") {
-            let reason = reason.copy_into(alloc)?;
+            let reason = reason.share()?;
             self.put_signal(reason);
         }
         Ok(())

@@ -37,11 +37,11 @@ fn add_term<A: Allocator>(term: &Term<A>, hasher: &mut FoldHasher) {
         }
         Term::Tuple(elements) => {
             hasher.write_u8(3);
-            add_terms(elements, hasher);
+            add_terms(&**elements, hasher);
         }
         Term::List(elements) => {
             hasher.write_u8(4);
-            add_terms(elements, hasher);
+            add_terms(&**elements, hasher);
         }
     }
 }
@@ -83,8 +83,8 @@ impl<A: Allocator + Copy> StatePart<A> for Atom<A> {
 
     ghost seen = { λ name. name };
 
-    fn share(&self, alloc: A) -> Result<Self, AllocError> {
-        self.copy_into(alloc)
+    fn share(&self, _: A) -> Result<Self, AllocError> {
+        Atom::share(self)
     }
 
     fn same(&self, other: &Self) -> bool {
@@ -101,8 +101,8 @@ impl<A: Allocator + Copy> StatePart<A> for Term<A> {
 
     ghost seen = { tree_of };
 
-    fn share(&self, alloc: A) -> Result<Self, AllocError> {
-        self.copy_into(alloc)
+    fn share(&self, _: A) -> Result<Self, AllocError> {
+        Term::share(self)
     }
 
     fn same(&self, other: &Self) -> bool {

@@ -47,37 +47,36 @@ impl<A: Allocator + Copy> Value<A> {
     }
 
     /// The tuple of the elements, where there are any.
-    pub fn tuple_of(elements: Option<Elements<A>>) -> Option<Value<A>>
-        ensures { (n d : ℕ) (ts : Trees) → AreBuiltIn n d ts elements → IsBuiltIn n d (tuple ts) result }
+    pub fn tuple_of(elements: Option<Elements<A>>) -> Result<Option<Value<A>>, AllocError>
+        ensures { (n d : ℕ) (ts : Trees) → AreBuiltIn n d ts elements → IfOk result (λ o. IsBuiltIn n d (tuple ts) o) }
     {
         match elements {
-            Some(elements) => Some(Value {
-                term: Term::Tuple(elements.terms),
+            Some(elements) => Ok(Some(Value {
+                term: Term::tuple(elements.terms)?,
                 size: elements.size,
                 depth: elements.depth,
-            }),
-            None => None,
+            })),
+            None => Ok(None),
         }
     }
 
     /// The list of the elements, where there are any.
-    pub fn list_of(elements: Option<Elements<A>>) -> Option<Value<A>>
-        ensures { (n d : ℕ) (ts : Trees) → AreBuiltIn n d ts elements → IsBuiltIn n d (list ts) result }
+    pub fn list_of(elements: Option<Elements<A>>) -> Result<Option<Value<A>>, AllocError>
+        ensures { (n d : ℕ) (ts : Trees) → AreBuiltIn n d ts elements → IfOk result (λ o. IsBuiltIn n d (list ts) o) }
     {
         match elements {
-            Some(elements) => Some(Value {
-                term: Term::List(elements.terms),
+            Some(elements) => Ok(Some(Value {
+                term: Term::list(elements.terms)?,
                 size: elements.size,
                 depth: elements.depth,
-            }),
-            None => None,
+            })),
+            None => Ok(None),
         }
     }
 
-    /// A copy of a shared term, where that has at most this size and this depth.
+    /// A shared term as a value, where that has at most this size and this depth. Its elements are shared.
     pub fn copy_of(
         shared: &SharedTerm<A>,
-        alloc: A,
         size: u64,
         depth: u64,
     ) -> Result<Option<Value<A>>, AllocError>
@@ -89,7 +88,7 @@ impl<A: Allocator + Copy> Value<A> {
             return Ok(None);
         }
         Ok(Some(Value {
-            term: shared.term().copy_into(alloc)?,
+            term: shared.term().share()?,
             size: shared.size(),
             depth: shared.depth(),
         }))

@@ -297,7 +297,7 @@ fn built_size<A: Allocator + Copy>(template: &Term<A>, env: &Env<A>) -> u64
             Some(value) => value.size().min(SIZE_END),
             None => 1,
         },
-        Term::Tuple(v) | Term::List(v) => (built_sizes(v, env) + 1).min(SIZE_END),
+        Term::Tuple(v) | Term::List(v) => (built_sizes(&**v, env) + 1).min(SIZE_END),
     }
 }
 
@@ -327,7 +327,7 @@ fn built_depth<A: Allocator + Copy>(template: &Term<A>, env: &Env<A>) -> u64
             Some(value) => value.depth(),
             None => 0,
         },
-        Term::Tuple(v) | Term::List(v) => built_depths(v, env).saturating_add(1),
+        Term::Tuple(v) | Term::List(v) => built_depths(&**v, env).saturating_add(1),
     }
 }
 
@@ -362,17 +362,17 @@ fn build_term<A: Allocator + Copy>(
     match template {
         Term::Int(n) => Ok(Some(Value::leaf(Term::Int(*n)))),
         Term::Atom(a) => match env.value_of(a.text()) {
-            Some(value) => Ok(Value::copy_of(value, alloc, size, depth)?),
-            None => Ok(Some(Value::leaf(Term::Atom(a.copy_into(alloc)?)))),
+            Some(value) => Ok(Value::copy_of(value, size, depth)?),
+            None => Ok(Some(Value::leaf(Term::Atom(a.share()?)))),
         },
         Term::Pid(n) => Ok(Some(Value::leaf(Term::Pid(*n)))),
         Term::Tuple(v) => {
-            let elements = build_terms(v, env, alloc, size, depth)?;
-            Ok(Value::tuple_of(elements))
+            let elements = build_terms(&**v, env, alloc, size, depth)?;
+            Ok(Value::tuple_of(elements)?)
         }
         Term::List(v) => {
-            let elements = build_terms(v, env, alloc, size, depth)?;
-            Ok(Value::list_of(elements))
+            let elements = build_terms(&**v, env, alloc, size, depth)?;
+            Ok(Value::list_of(elements)?)
         }
     }
 }

@@ -29,7 +29,7 @@ fn has_unbound<A: Allocator>(bound: &BTreeMap<&str, (), A>, term: &Term<A>) -> b
     match term {
         Term::Atom(atom) => is_variable(atom.text()) && !is_bound(bound, atom.text()),
         Term::Int(_) | Term::Pid(_) => false,
-        Term::Tuple(terms) | Term::List(terms) => any_unbound(bound, terms),
+        Term::Tuple(terms) | Term::List(terms) => any_unbound(bound, &**terms),
     }
 }
 

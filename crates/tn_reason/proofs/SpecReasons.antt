@@ -14,8 +14,7 @@ use Rattle.def_explain.proofs.SpecReasons.{first-append}
 use Rattle.tn_term.proofs.Trees.{here, count_seen}
 use Rattle.tn_spec.specs.Names.{row_of}
 use Rattle.tn_spec.proofs.Tuples.{first_is}
-use Rattle.tn_term.specs.declared.term.Term.{Term, List as ListOf}
-use Rattle.tn_term.proofs.Views.{tree_of_list}
+use Rattle.tn_term.specs.declared.term.Term.{Term}
 use Rattle.tn_term.specs.Views.{tree_of, trees_of}
 
 -- ---- the first reason of several terms, each of which is made of several
@@ -164,10 +163,10 @@ module _ (d : Dialect) where
   some_of (x ∷ xs) e = refl
 
   -- a list of no clause
-  pub no_elements : {A : Type 0} (t : Term A) (v : Vec (Term A) A) → t ≡ ListOf v → 0 ≡ length v.items → Some (no_clauses (tree_of t)) ≡ spec_reason d (tree_of t)
-  no_elements t v is empty = subst (λ u. Some (no_clauses u) ≡ spec_reason d u) (sym (ap tree_of is ∙ tree_of_list v)) (none_of v.items empty)
+  pub no_elements : {A : Type 0} (t : Term A) (v : Vec (Term A) A) → tree_of t ≡ list (trees_of v.items) → 0 ≡ length v.items → Some (no_clauses (tree_of t)) ≡ spec_reason d (tree_of t)
+  no_elements t v is empty = subst (λ u. Some (no_clauses u) ≡ spec_reason d u) (sym is) (none_of v.items empty)
 
   -- a list of one clause or more
-  pub some_elements : {A : Type 0} (t : Term A) (v : Vec (Term A) A) → t ≡ ListOf v → 0 < length v.items
+  pub some_elements : {A : Type 0} (t : Term A) (v : Vec (Term A) A) → tree_of t ≡ list (trees_of v.items) → 0 < length v.items
       → option_map (λ x. at_clause x.0 x.1) (reason_after (clause_reason d) 0 (trees_of v.items)) ≡ spec_reason d (tree_of t)
-  some_elements t v is some = some_of v.items some ∙ sym (ap (spec_reason d) (ap tree_of is ∙ tree_of_list v))
+  some_elements t v is some = some_of v.items some ∙ sym (ap (spec_reason d) is)

@@ -114,8 +114,8 @@ pub fn expression_reason<'a, A: Allocator>(
     match term {
         Term::Int(_) | Term::Pid(_) => None,
         Term::Atom(name) => atom_reason(name, head),
-        Term::Tuple(terms) => tuple_reason(terms, dialect, part, head),
-        Term::List(terms) => first_reason(terms, 0, dialect, part, head),
+        Term::Tuple(terms) => tuple_reason(&**terms, dialect, part, head),
+        Term::List(terms) => first_reason(&**terms, 0, dialect, part, head),
     }
 }
 
@@ -136,7 +136,7 @@ fn tuple_reason<'a, A: Allocator>(
     match &terms[0] {
         Term::Tuple(inner) => {
             if terms.len() == 1 {
-                first_reason(inner, 0, dialect, part, head)
+                first_reason(&**inner, 0, dialect, part, head)
             } else {
                 Some(ExpressionReason::NoCall(terms))
             }

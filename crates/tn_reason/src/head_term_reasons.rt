@@ -36,7 +36,7 @@ fn wrong_variable_in<'a, A: Allocator>(term: &'a Term<A>) -> Option<&'a Atom<A>>
     match term {
         Term::Int(_) | Term::Pid(_) => None,
         Term::Atom(name) => wrong_variable(name),
-        Term::Tuple(terms) | Term::List(terms) => wrong_variable_in_each(terms),
+        Term::Tuple(terms) | Term::List(terms) => wrong_variable_in_each(&**terms),
     }
 }
 
@@ -64,7 +64,7 @@ pub fn head_term_reason<'a, A: Allocator>(term: &'a Term<A>) -> Option<HeadTermR
             AtomKind::Plain if is_anything(name.text()) => None,
             AtomKind::Plain => Some(HeadTermReason::NoHead(term)),
         },
-        Term::List(terms) => match wrong_variable_in_each(terms) {
+        Term::List(terms) => match wrong_variable_in_each(&**terms) {
             Some(name) => Some(HeadTermReason::NoHeadVariable(name)),
             None => None,
         },

@@ -115,7 +115,11 @@ fn three_reason<'a, A: Allocator + Copy>(
 {
     match (conditions, body) {
         (Term::List(conditions), Term::List(body)) => parts_reason(
-            alloc, head, conditions, body, dialect,
+            alloc,
+            head,
+            &**conditions,
+            &**body,
+            dialect,
         ),
         (Term::List(_), _) => Ok(Some(ClauseReason::OfShape(ShapeReason::NoBody(body)))),
         _ => Ok(Some(ClauseReason::OfShape(ShapeReason::NoConditions(conditions)))),
@@ -146,7 +150,7 @@ fn clause_reason<'a, A: Allocator + Copy>(
     ensures { IfOk result (λ r. clause_reasons_seen r ≡ clause_reason (dialect_of dialect) (tree_of term.now)) }
 {
     match term {
-        Term::Tuple(fields) => fields_reason(alloc, fields, dialect),
+        Term::Tuple(fields) => fields_reason(alloc, &**fields, dialect),
         _ => Ok(Some(ClauseReason::OfShape(ShapeReason::NoTuple(term)))),
     }
 }
@@ -180,6 +184,7 @@ pub fn spec_reason<'a, A: Allocator + Copy>(
     let Term::List(terms) = term else {
         return Ok(Some(SpecReason::NoClauses(term)));
     };
+    let terms = &**terms;
     if terms.len() == 0 {
         return Ok(Some(SpecReason::NoClauses(term)));
     }

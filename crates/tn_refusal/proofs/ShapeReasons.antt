@@ -4,12 +4,12 @@ use Rattle.std.proofs.lemmas.List.{length-map, drop_more}
 use Rattle.std.specs.Option.{option_or}
 use Rattle.std.specs.List.{list_any}
 use Rattle.std.specs.declared.vec.Vec.{Vec}
-use Rattle.def_term.specs.Tree.{Tree}
+use Rattle.def_term.specs.Tree.{Tree, tuple, list}
 use Rattle.def_term.specs.Order.{same}
 use Rattle.def_term.proofs.Same.{same-is, same-self}
-use Rattle.tn_term.specs.declared.term.Term.{Term, Tuple, List as ListOf}
-use Rattle.tn_term.specs.Views.{tree_of}
-use Rattle.tn_script.proofs.OfTerms.{list_of_list, tuple_of_tuple}
+use Rattle.tn_term.specs.declared.term.Term.{Term}
+use Rattle.tn_term.specs.Views.{tree_of, trees_of}
+use Rattle.tn_term.proofs.Views.{elements-of_elements}
 use Rattle.def_script.specs.Shapes.{name_in, callee_of, callee_in, both, and_then, list_in, tuple_in}
 use Rattle.def_wording.specs.ShapeTexts.{PartReason, other_count, ShapelessReason, unless_read, by_list, send_step_reason, receive_step_reason, call_step_reason, one_part_reason, create_reason, destroy_reason, three_parts_reason, specified_reason, function_shape_reason, command_as_form, process_shape_reason, control_shape_reason, of_part}
 use Rattle.tn_refusal.specs.declared.part_reasons.PartReason as code
@@ -215,12 +215,12 @@ of_six f k says (a ∷ b ∷ c ∷ d ∷ e ∷ h ∷ j ∷ xs) u v x y z n p q r
 -- ---- terms of a kind
 
 -- what a list has, by its elements
-pub of_list : {A O : Type 0} (t : Term A) (v : Vec (Term A) A) (xs : List (Term A)) (o : O) (f : List Tree → O) → t ≡ ListOf v → xs ≡ v.items → f (map tree_of xs) ≡ by_list o f (list_in (tree_of t))
-of_list t v xs o f is same = ap (λ ys. f (map tree_of ys)) same ∙ sym (ap (by_list o f) (ap (λ u. list_in (tree_of u)) is ∙ list_of_list v))
+pub of_list : {A O : Type 0} (t : Term A) (v : Vec (Term A) A) (xs : List (Term A)) (o : O) (f : List Tree → O) → tree_of t ≡ list (trees_of v.items) → xs ≡ v.items → f (map tree_of xs) ≡ by_list o f (list_in (tree_of t))
+of_list t v xs o f is same = ap (λ ys. f (map tree_of ys)) same ∙ sym (ap (by_list o f) (ap list_in is ∙ ap Some (elements-of_elements (map tree_of v.items))))
 
 -- what a tuple has, by its elements
-pub of_tuple : {A O : Type 0} (t : Term A) (v : Vec (Term A) A) (xs : List (Term A)) (o : O) (f : List Tree → O) → t ≡ Tuple v → xs ≡ v.items → f (map tree_of xs) ≡ by_list o f (tuple_in (tree_of t))
-of_tuple t v xs o f is same = ap (λ ys. f (map tree_of ys)) same ∙ sym (ap (by_list o f) (ap (λ u. tuple_in (tree_of u)) is ∙ tuple_of_tuple v))
+pub of_tuple : {A O : Type 0} (t : Term A) (v : Vec (Term A) A) (xs : List (Term A)) (o : O) (f : List Tree → O) → tree_of t ≡ tuple (trees_of v.items) → xs ≡ v.items → f (map tree_of xs) ≡ by_list o f (tuple_in (tree_of t))
+of_tuple t v xs o f is same = ap (λ ys. f (map tree_of ys)) same ∙ sym (ap (by_list o f) (ap tuple_in is ∙ ap Some (elements-of_elements (map tree_of v.items))))
 
 -- whether both are names
 pub two_names : {A : Type 0} (xs : List (Term A)) (x y : Term A) (a b : Bool) → length xs ≡ 2 → x ≡ get_or xs 0 x → y ≡ get_or xs 1 y → a ≡ is_some (name_in (tree_of x)) → b ≡ is_some (name_in (tree_of y)) → (if a then b else false) ≡ is_some (callee_of (map tree_of xs))
@@ -246,8 +246,8 @@ no_two (a ∷ b ∷ c ∷ ts) h = refl
 pub no_two_names : {A : Type 0} (xs : List (Term A)) → length xs ≢ 2 → false ≡ is_some (callee_of (map tree_of xs))
 no_two_names xs h = no_two (map tree_of xs) (λ e. h (sym (length-map xs tree_of) ∙ e))
 
-pub is_callee_by : {A : Type 0} (t : Term A) (v : Vec (Term A) A) (xs : List (Term A)) → t ≡ Tuple v → xs ≡ v.items → is_some (callee_of (map tree_of xs)) ≡ is_some (callee_in (tree_of t))
-is_callee_by t v xs is same = ap (λ ys. is_some (callee_of (map tree_of ys))) same ∙ sym (ap (λ o. is_some (and_then o callee_of)) (ap (λ u. tuple_in (tree_of u)) is ∙ tuple_of_tuple v))
+pub is_callee_by : {A : Type 0} (t : Term A) (v : Vec (Term A) A) (xs : List (Term A)) → tree_of t ≡ tuple (trees_of v.items) → xs ≡ v.items → is_some (callee_of (map tree_of xs)) ≡ is_some (callee_in (tree_of t))
+is_callee_by t v xs is same = ap (λ ys. is_some (callee_of (map tree_of ys))) same ∙ sym (ap (λ o. is_some (and_then o callee_of)) (ap tuple_in is ∙ ap Some (elements-of_elements (map tree_of v.items))))
 
 -- ---- terms that stand among others
 

@@ -146,7 +146,7 @@ pub fn command_reason<'a, A: Allocator>(term: &'a Term<A>) -> Option<PartReason<
     ensures { part_reasons_seen result ≡ command_shape_reason (tree_of term.now) }
 {
     match term {
-        Term::Tuple(fields) => fields_reason(term, fields),
+        Term::Tuple(fields) => fields_reason(term, &**fields),
         _ => Some(no_command(term)),
     }
 }

@@ -92,7 +92,7 @@ pub fn arguments_reason<'a, A: Allocator>(term: &'a Term<A>) -> Option<PartReaso
     match term {
         Term::List(terms) => length_reason(
             b"a list of arguments has at most 255 elements, found ",
-            terms,
+            &**terms,
         ),
         _ => Some(PartReason::UnfitPart(b"Args", b" must be a list", term)),
     }

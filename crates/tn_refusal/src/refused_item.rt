@@ -37,7 +37,7 @@ impl<A: Allocator> ItemInForms<A> {
 }
 
 /// The item for which the term with this number, from 1, has no shape.
-fn item_of_terms<A: Allocator>(
+fn item_of_terms<A: Allocator + Copy>(
     alloc: A,
     mut terms: Vec<Term<A>, A>,
     form: usize,

@@ -108,7 +108,7 @@ fn params_reason<'a, A: Allocator>(term: &'a Term<A>) -> Option<PartReason<'a, A
     ensures { part_reasons_seen result ≡ params_reason (tree_of term.now) }
 {
     match term {
-        Term::List(terms) => params_list_reason(terms),
+        Term::List(terms) => params_list_reason(&**terms),
         _ => Some(PartReason::UnfitPart(b"Params", b" must be a list", term)),
     }
 }
@@ -142,7 +142,7 @@ fn steps_reason<'a, A: Allocator>(term: &'a Term<A>) -> Option<ShapelessReason<'
     ensures { shapeless_reasons_seen result ≡ steps_reason (tree_of term.now) }
 {
     match term {
-        Term::List(terms) => listed_steps_reason(terms),
+        Term::List(terms) => listed_steps_reason(&**terms),
         _ => Some(ShapelessReason::OfPart(PartReason::UnfitPart(
             b"Steps",
             b" must be a list",
@@ -156,7 +156,7 @@ fn commands_reason<'a, A: Allocator>(term: &'a Term<A>) -> Option<ShapelessReaso
     ensures { shapeless_reasons_seen result ≡ commands_shape_reason (tree_of term.now) }
 {
     match term {
-        Term::List(terms) => listed_commands_reason(terms),
+        Term::List(terms) => listed_commands_reason(&**terms),
         _ => Some(ShapelessReason::OfPart(PartReason::UnfitPart(
             b"Commands",
             b" must be a list",
@@ -275,7 +275,7 @@ pub fn shape_reason<'a, A: Allocator>(term: &'a Term<A>) -> Option<ShapelessReas
     ensures { shapeless_reasons_seen result ≡ shape_reason (tree_of term.now) }
 {
     match term {
-        Term::Tuple(fields) => fields_reason(term, fields),
+        Term::Tuple(fields) => fields_reason(term, &**fields),
         _ => Some(no_form(term)),
     }
 }

@@ -56,7 +56,7 @@ fn is_callee<A: Allocator>(term: &Term<A>) -> bool
     ensures { result ≡ is_some (callee_in (tree_of term.now)) }
 {
     match term {
-        Term::Tuple(fields) => are_two_names(fields),
+        Term::Tuple(fields) => are_two_names(&**fields),
         _ => false,
     }
 }
@@ -241,7 +241,7 @@ pub fn step_reason<'a, A: Allocator>(term: &'a Term<A>) -> Option<PartReason<'a,
     ensures { part_reasons_seen result ≡ step_shape_reason (tree_of term.now) }
 {
     match term {
-        Term::Tuple(fields) => fields_reason(term, fields),
+        Term::Tuple(fields) => fields_reason(term, &**fields),
         _ => Some(no_step(term)),
     }
 }

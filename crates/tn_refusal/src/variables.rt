@@ -119,8 +119,8 @@ fn in_term<'a, A: Allocator>(term: &'a Term<A>, site: &TermSite<'_, A>) -> Optio
         }
         Term::Int(_) => None,
         Term::Pid(_) => None,
-        Term::Tuple(terms) => in_terms(terms, site),
-        Term::List(terms) => in_terms(terms, site),
+        Term::Tuple(terms) => in_terms(&**terms, site),
+        Term::List(terms) => in_terms(&**terms, site),
     }
 }
 

@@ -161,7 +161,7 @@ fn listed_can_differ<A: Allocator>(term: &Term<A>) -> bool
     ensures { result ≡ listed_can_differ (flags_listed (tree_of term.now)) }
 {
     match term {
-        Term::List(items) => named_can_differ(items),
+        Term::List(items) => named_can_differ(&**items),
         _ => false,
     }
 }

@@ -48,7 +48,7 @@ fn option_once<A: Allocator>(options: &Term<A>) -> Option<bool>
     ensures { IsOptionOnce (tree_of options.now) result }
 {
     match options {
-        Term::List(items) => only_option(items),
+        Term::List(items) => only_option(&**items),
         _ => None,
     }
 }
@@ -59,7 +59,7 @@ fn list_of<A: Allocator + Copy>(alloc: A, term: Term<A>) -> Result<Term<A>, Allo
 {
     let mut items = Vec::with_capacity(alloc, 1)?;
     items.push(term)?;
-    Ok(Term::List(items))
+    Ok(Term::list(items)?)
 }
 
 /// `[local]` or `[global]`
@@ -97,8 +97,8 @@ pub fn command_once<A: Allocator + Copy>(
     let options = option_term(alloc, local)?;
     Ok(Some(Command::Function {
         session: session.copy_into(alloc)?,
-        mfa: mfa.copy_into(alloc)?,
-        specification: specification.copy_into(alloc)?,
+        mfa: mfa.share()?,
+        specification: specification.share()?,
         options,
     }))
 }
@@ -140,7 +140,7 @@ pub fn matches_none<A: Allocator>(mfa: &Term<A>) -> bool
     ensures { result ≡ matches_none (tree_of mfa.now) }
 {
     match mfa {
-        Term::Tuple(items) => are_of_none(items),
+        Term::Tuple(items) => are_of_none(&**items),
         _ => false,
     }
 }

@@ -61,7 +61,7 @@ pub fn is_empty_list<A: Allocator>(term: &Term<A>) -> bool
     ensures { result ≡ same (tree_of term.now) (list none) }
 {
     match term {
-        Term::List(items) => has_no_element(items),
+        Term::List(items) => has_no_element(&**items),
         _ => false,
     }
 }
@@ -221,7 +221,7 @@ fn tuple_of_three<A: Allocator + Copy>(
     items.push(first)?;
     items.push(second)?;
     items.push(third)?;
-    Ok(Term::Tuple(items))
+    Ok(Term::tuple(items)?)
 }
 
 /// `{M,F,Arity}`
@@ -241,7 +241,7 @@ fn options_term<A: Allocator + Copy>(alloc: A, local: bool) -> Result<Term<A>, A
     if local {
         items.push(Term::word(alloc, "local")?)?;
     }
-    Ok(Term::List(items))
+    Ok(Term::list(items)?)
 }
 
 /// Whether the term is an integer.

@@ -69,28 +69,28 @@ pub fn push_unless<A: Allocator + Copy>(
 }
 
 /// A tuple of two terms.
-fn pair<A: Allocator>(alloc: A, one: Term<A>, other: Term<A>) -> Result<Term<A>, AllocError>
+fn pair<A: Allocator + Copy>(alloc: A, one: Term<A>, other: Term<A>) -> Result<Term<A>, AllocError>
     ensures { IfOk result (λ t. tree_of t ≡ tuple (of_elements (tree_of one ∷ tree_of other ∷ []))) }
 {
     let mut elements = Vec::new(alloc);
     elements.push(one)?;
     elements.push(other)?;
-    Ok(Term::Tuple(elements))
+    Ok(Term::tuple(elements)?)
 }
 
 /// The list of calls, as it is read: `[]`.
-fn no_calls<A: Allocator>(alloc: A) -> Term<A>
-    ensures { tree_of result ≡ list none }
+fn no_calls<A: Allocator + Copy>(alloc: A) -> Result<Term<A>, AllocError>
+    ensures { IfOk result (λ t. tree_of t ≡ list none) }
 {
-    Term::List(Vec::new(alloc))
+    Ok(Term::list(Vec::new(alloc))?)
 }
 
 /// The reason of an error: the term, and the list of calls, which is `[]`.
 fn with_calls<A: Allocator + Copy>(alloc: A, term: &Term<A>) -> Result<Term<A>, AllocError>
     ensures { IfOk result (λ t. tree_of t ≡ with_calls (tree_of term.now)) }
 {
-    let term = term.copy_into(alloc)?;
-    let reason = pair(alloc, term, no_calls(alloc))?;
+    let term = term.share()?;
+    let reason = pair(alloc, term, no_calls(alloc)?)?;
     Ok(reason)
 }
 
@@ -115,7 +115,7 @@ fn push_exception<A: Allocator + Copy>(
                 pid: mark.process,
                 mfa: mark.mfa.copy_into(alloc)?,
                 class: Class::Error,
-                value: SharedTerm::new(alloc, reason.copy_into(alloc)?)?,
+                value: SharedTerm::new(alloc, reason.share()?)?,
                 depth: mark.depth,
             };
             push_where(alloc, true, &event, lines)

@@ -2,6 +2,8 @@
 use Rattle.std.proofs.Common.{◌≡◌, Bool, ◌≢◌, ℕ, suc, false, ◌==◌, ◌<◌, ◌≤◌, Option, List, [], ◌∷◌, length, get_or, map, Some, None, refl, sym, ap, ◌∙◌, arith}
 use Rattle.std.proofs.lemmas.List.{length-map}
 use Rattle.std.specs.declared.vec.Vec.{Vec}
+use Rattle.std.specs.Arc.{arc_value}
+use Rattle.std.specs.declared.sync.Arc.{Arc}
 use Rattle.def_term.specs.Tree.{Tree, int, atom, pid, tuple, list}
 use Rattle.def_term.specs.Order.{same}
 use Rattle.std.proofs.lemmas.Bool.Decides.{nat_tests}
@@ -14,11 +16,11 @@ use Rattle.tn_term.specs.declared.term.Term.{Term, Tuple, List as ListOf}
 use Rattle.tn_term.proofs.Views.{tree_of_tuple, tree_of_list, elements-of_elements}
 use Rattle.tn_term.proofs.Words.{same-atoms}
 
-pub list_of_list : {A : Type 0} (v : Vec (Term A) A) → list_in (tree_of (ListOf v)) ≡ Some (map tree_of v.items)
-list_of_list v = ap list_in (tree_of_list v) ∙ ap Some (elements-of_elements (map tree_of v.items))
+pub list_of_list : {A : Type 0} (v : Arc (Vec (Term A) A) A) → list_in (tree_of (ListOf v)) ≡ Some (map tree_of (arc_value v).items)
+list_of_list v = ap list_in (tree_of_list v) ∙ ap Some (elements-of_elements (map tree_of (arc_value v).items))
 
-pub tuple_of_tuple : {A : Type 0} (v : Vec (Term A) A) → tuple_in (tree_of (Tuple v)) ≡ Some (map tree_of v.items)
-tuple_of_tuple v = ap tuple_in (tree_of_tuple v) ∙ ap Some (elements-of_elements (map tree_of v.items))
+pub tuple_of_tuple : {A : Type 0} (v : Arc (Vec (Term A) A) A) → tuple_in (tree_of (Tuple v)) ≡ Some (map tree_of (arc_value v).items)
+tuple_of_tuple v = ap tuple_in (tree_of_tuple v) ∙ ap Some (elements-of_elements (map tree_of (arc_value v).items))
 
 same-atom : (w : List ℕ) (t : Tree) → same t (atom w) ≡ is_atom_of w t
 same-atom w (int n) = refl
@@ -73,8 +75,8 @@ empty_tree : {A : Type 0} (xs : List (Term A)) → (length xs == 0) ≡ is_empty
 empty_tree [] = refl
 empty_tree (x ∷ xs) = not_none (length xs)
 
-pub empty_of_list : {A : Type 0} (v : Vec (Term A) A) → (length v.items == 0) ≡ is_empty_list (tree_of (ListOf v))
-empty_of_list v = empty_tree v.items ∙ ap is_empty_list (sym (tree_of_list v))
+pub empty_of_list : {A : Type 0} (v : Arc (Vec (Term A) A) A) → (length (arc_value v).items == 0) ≡ is_empty_list (tree_of (ListOf v))
+empty_of_list v = empty_tree (arc_value v).items ∙ ap is_empty_list (sym (tree_of_list v))
 
 pub some_there : (n : ℕ) → (n == 0) ≡ false → 0 < n
 some_there n e = grind (arith, e)

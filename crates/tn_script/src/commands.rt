@@ -122,25 +122,28 @@ fn command_of_tuple<A: Allocator>(fields: Vec<Term<A>, A>) -> Option<Command<A>>
 }
 
 /// The command that the term stands for, if it has a shape.
-pub fn command<A: Allocator>(term: Term<A>) -> Option<Command<A>>
-    ensures { option_map command_of result ≡ command_in (tree_of term) }
+pub fn command<A: Allocator + Copy>(term: Term<A>) -> Result<Option<Command<A>>, AllocError>
+    ensures { IfOk result (λ o. option_map command_of o ≡ command_in (tree_of term)) }
 {
-    command_of_tuple(tuple(term)?)
+    match tuple(term)? {
+        Some(fields) => Ok(command_of_tuple(fields)),
+        None => Ok(None),
+    }
 }
 
 /// The commands, where the term is a list of commands.
-pub fn commands<A: Allocator>(
+pub fn commands<A: Allocator + Copy>(
     alloc: A,
     term: Term<A>,
 ) -> Result<Option<Vec<Command<A>, A>>, AllocError>
     ensures { IfOk result (λ o. option_map (λ v. map command_of v.items) o ≡ commands_in (tree_of term)) }
 {
-    let Some(terms) = list(term) else {
+    let Some(terms) = list(term)? else {
         return Ok(None);
     };
     let mut commands = Vec::new(alloc);
     for term in terms {
-        let Some(command) = command(term) else {
+        let Some(command) = command(term)? else {
             return Ok(None);
         };
         commands.push(command)?;

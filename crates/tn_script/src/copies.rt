@@ -4,7 +4,7 @@ ghost use Rattle.tn_script.specs.Views.{args_of, entry_of};
 
 use crate::form::{Arguments, Entry};
 use std::alloc::{AllocError, Allocator};
-use tn_term::{Atom, copy_terms};
+use tn_term::{Atom, share_terms};
 
 /// The same target.
 pub fn copy_target<A: Allocator + Copy>(
@@ -19,18 +19,18 @@ pub fn copy_target<A: Allocator + Copy>(
     }
 }
 
-/// The same arguments.
+/// The same arguments. What they consist of has one owner more.
 fn copy_arguments<A: Allocator + Copy>(
     alloc: A,
     args: &Arguments<A>,
 ) -> Result<Arguments<A>, AllocError>
     ensures { IfOk result (λ a. args_of a ≡ args_of args.now) }
 {
-    let terms = copy_terms(&args.terms, alloc)?;
+    let terms = share_terms(&args.terms, alloc)?;
     Ok(Arguments { terms })
 }
 
-/// The same entry call.
+/// The same entry call. What its arguments consist of has one owner more.
 pub fn copy_entry<A: Allocator + Copy>(alloc: A, entry: &Entry<A>) -> Result<Entry<A>, AllocError>
     ensures { IfOk result (λ e. entry_of e ≡ entry_of entry.now) }
 {

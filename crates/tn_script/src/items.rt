@@ -30,35 +30,37 @@ pub enum FormItem {
 }
 
 /// The position of the first of the terms that is no step.
-fn shapeless_step<A: Allocator>(terms: Vec<Term<A>, A>) -> Option<usize>
-    ensures { result ≡ position_without_shape step_in 1 (map tree_of terms.items) }
+fn shapeless_step<A: Allocator + Copy>(terms: Vec<Term<A>, A>) -> Result<Option<usize>, AllocError>
+    ensures { IfOk result (λ o. o ≡ position_without_shape step_in 1 (map tree_of terms.items)) }
 {
     let mut position = 1;
     for term in terms {
-        let Some(_) = step(term) else {
-            return Some(position);
+        let Some(_) = step(term)? else {
+            return Ok(Some(position));
         };
         position += 1;
     }
-    None
+    Ok(None)
 }
 
 /// The position of the first of the terms that is no command.
-fn shapeless_command<A: Allocator>(terms: Vec<Term<A>, A>) -> Option<usize>
-    ensures { result ≡ position_without_shape command_in 1 (map tree_of terms.items) }
+fn shapeless_command<A: Allocator + Copy>(
+    terms: Vec<Term<A>, A>,
+) -> Result<Option<usize>, AllocError>
+    ensures { IfOk result (λ o. o ≡ position_without_shape command_in 1 (map tree_of terms.items)) }
 {
     let mut position = 1;
     for term in terms {
-        let Some(_) = command(term) else {
-            return Some(position);
+        let Some(_) = command(term)? else {
+            return Ok(Some(position));
         };
         position += 1;
     }
-    None
+    Ok(None)
 }
 
 /// The terms that are to be steps, where all else of `{function,M,F,Vis,Params,Steps}` has its shape.
-fn step_terms<A: Allocator>(
+fn step_terms<A: Allocator + Copy>(
     alloc: A,
     fields: Vec<Term<A>, A>,
 ) -> Result<Option<Vec<Term<A>, A>>, AllocError>
@@ -73,19 +75,24 @@ fn step_terms<A: Allocator>(
     let Some(_) = params(alloc, parameters)? else {
         return Ok(None);
     };
-    Ok(list(body))
+    Ok(list(body)?)
 }
 
 /// The terms that are to be commands of `{control,Commands}`.
-fn command_terms<A: Allocator>(fields: Vec<Term<A>, A>) -> Option<Vec<Term<A>, A>>
-    ensures { option_map (λ v. map tree_of v.items) result ≡ terms_as_commands (map tree_of fields.items) }
+fn command_terms<A: Allocator + Copy>(
+    fields: Vec<Term<A>, A>,
+) -> Result<Option<Vec<Term<A>, A>>, AllocError>
+    ensures { IfOk result (λ o.
+        option_map (λ v. map tree_of v.items) o ≡ terms_as_commands (map tree_of fields.items)) }
 {
-    let (_, commands) = two(fields)?;
-    list(commands)
+    let Some((_, commands)) = two(fields) else {
+        return Ok(None);
+    };
+    Ok(list(commands)?)
 }
 
 /// The step for which a function form of these fields has no shape.
-fn step_item<A: Allocator>(
+fn step_item<A: Allocator + Copy>(
     alloc: A,
     fields: Vec<Term<A>, A>,
 ) -> Result<Option<FormItem>, AllocError>
@@ -95,26 +102,30 @@ fn step_item<A: Allocator>(
     let Some(terms) = step_terms(alloc, fields)? else {
         return Ok(None);
     };
-    match shapeless_step(terms) {
+    match shapeless_step(terms)? {
         Some(position) => Ok(Some(FormItem::Step { position })),
         None => Ok(None),
     }
 }
 
 /// The command for which a control form of these fields has no shape.
-fn command_item<A: Allocator>(fields: Vec<Term<A>, A>) -> Option<FormItem>
-    ensures { option_map form_item_of result ≡ option_map command_item_of
-        (and_then (terms_as_commands (map tree_of fields.items)) (position_without_shape command_in 1)) }
+fn command_item<A: Allocator + Copy>(
+    fields: Vec<Term<A>, A>,
+) -> Result<Option<FormItem>, AllocError>
+    ensures { IfOk result (λ o. option_map form_item_of o ≡ option_map command_item_of
+        (and_then (terms_as_commands (map tree_of fields.items)) (position_without_shape command_in 1))) }
 {
-    let terms = command_terms(fields)?;
-    match shapeless_command(terms) {
-        Some(position) => Some(FormItem::Command { position }),
-        None => None,
+    let Some(terms) = command_terms(fields)? else {
+        return Ok(None);
+    };
+    match shapeless_command(terms)? {
+        Some(position) => Ok(Some(FormItem::Command { position })),
+        None => Ok(None),
     }
 }
 
 /// The item for which a form of these fields has no shape.
-fn item_of_fields<A: Allocator>(
+fn item_of_fields<A: Allocator + Copy>(
     alloc: A,
     fields: Vec<Term<A>, A>,
 ) -> Result<Option<FormItem>, AllocError>
@@ -123,7 +134,7 @@ fn item_of_fields<A: Allocator>(
     if is_tagged(&fields, "function") {
         step_item(alloc, fields)
     } else if is_tagged(&fields, "control") {
-        Ok(command_item(fields))
+        command_item(fields)
     } else {
         Ok(None)
     }
@@ -135,10 +146,13 @@ fn item_of_fields<A: Allocator>(
 /// # Errors
 ///
 /// AllocError where memory was refused.
-pub fn shapeless_item<A: Allocator>(alloc: A, term: Term<A>) -> Result<Option<FormItem>, AllocError>
+pub fn shapeless_item<A: Allocator + Copy>(
+    alloc: A,
+    term: Term<A>,
+) -> Result<Option<FormItem>, AllocError>
     ensures { IfOk result (λ o. option_map form_item_of o ≡ shapeless_item_in (tree_of term)) }
 {
-    match tuple(term) {
+    match tuple(term)? {
         Some(fields) => item_of_fields(alloc, fields),
         None => Ok(None),
     }

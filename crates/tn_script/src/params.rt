@@ -64,11 +64,14 @@ fn distinct<A: Allocator>(atoms: Vec<Atom<A>, A>) -> Option<Vec<Atom<A>, A>>
 }
 
 /// The parameters, where the term is a list of at most 255 distinct variables, none of them `'Self'`.
-pub fn params<A: Allocator>(alloc: A, term: Term<A>) -> Result<Option<Vec<Atom<A>, A>>, AllocError>
+pub fn params<A: Allocator + Copy>(
+    alloc: A,
+    term: Term<A>,
+) -> Result<Option<Vec<Atom<A>, A>>, AllocError>
     ensures value { IfOk result (λ o. option_map (λ v. v.items) o ≡ params_in (tree_of term)) }
     ensures few { IfOk result (λ o. IfSome o (λ v. length v.items ≤ 255)) }
 {
-    let Some(args) = arguments(term) else {
+    let Some(args) = arguments(term)? else {
         return Ok(None);
     };
     match variables(alloc, args.terms)? {

@@ -1,5 +1,5 @@
 // The parts of terms that shapes ask for.
-ghost use Rattle.std.specs.Prelude.{◌≡◌, map};
+ghost use Rattle.std.specs.Prelude.{◌≡◌, IfOk, map};
 ghost use Rattle.std.specs.Option.{option_map};
 ghost use Rattle.def_script.specs.Shapes.{begins_with, is_tuple as is_tuple_tree, is_empty_list as is_empty_tree};
 ghost use Rattle.def_script.specs.Shapes.{tuple_in, list_in, args_in};
@@ -7,8 +7,8 @@ ghost use Rattle.tn_term.specs.Views.{tree_of};
 ghost use Rattle.tn_script.specs.Views.{args_of};
 
 use crate::form::Arguments;
-use std::alloc::Allocator;
-use tn_term::Term;
+use std::alloc::{AllocError, Allocator};
+use tn_term::{Term, items_of};
 
 /// The greatest number of arguments.
 const ARGUMENTS: usize = 255;
@@ -38,33 +38,35 @@ pub fn is_empty_list<A: Allocator>(term: &Term<A>) -> bool
 }
 
 /// The fields, where the term is a tuple.
-pub fn tuple<A: Allocator>(term: Term<A>) -> Option<Vec<Term<A>, A>>
-    ensures { option_map (λ v. map tree_of v.items) result ≡ tuple_in (tree_of term) }
+pub fn tuple<A: Allocator + Copy>(term: Term<A>) -> Result<Option<Vec<Term<A>, A>>, AllocError>
+    ensures { IfOk result (λ o. option_map (λ v. map tree_of v.items) o ≡ tuple_in (tree_of term)) }
 {
     match term {
-        Term::Tuple(fields) => Some(fields),
-        _ => None,
+        Term::Tuple(fields) => Ok(Some(items_of(fields)?)),
+        _ => Ok(None),
     }
 }
 
 /// The elements, where the term is a list.
-pub fn list<A: Allocator>(term: Term<A>) -> Option<Vec<Term<A>, A>>
-    ensures { option_map (λ v. map tree_of v.items) result ≡ list_in (tree_of term) }
+pub fn list<A: Allocator + Copy>(term: Term<A>) -> Result<Option<Vec<Term<A>, A>>, AllocError>
+    ensures { IfOk result (λ o. option_map (λ v. map tree_of v.items) o ≡ list_in (tree_of term)) }
 {
     match term {
-        Term::List(terms) => Some(terms),
-        _ => None,
+        Term::List(terms) => Ok(Some(items_of(terms)?)),
+        _ => Ok(None),
     }
 }
 
 /// The arguments, where the term is a list of at most 255.
-pub fn arguments<A: Allocator>(term: Term<A>) -> Option<Arguments<A>>
-    ensures { option_map args_of result ≡ args_in (tree_of term) }
+pub fn arguments<A: Allocator + Copy>(term: Term<A>) -> Result<Option<Arguments<A>>, AllocError>
+    ensures { IfOk result (λ o. option_map args_of o ≡ args_in (tree_of term)) }
 {
-    let terms = list(term)?;
+    let Some(terms) = list(term)? else {
+        return Ok(None);
+    };
     if terms.len() <= ARGUMENTS {
-        Some(Arguments { terms })
+        Ok(Some(Arguments { terms }))
     } else {
-        None
+        Ok(None)
     }
 }

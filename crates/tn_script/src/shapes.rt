@@ -77,25 +77,41 @@ fn function_form<A: Allocator + Copy>(
 }
 
 /// The entry call of a process, where its parts have their shape.
-fn entry<A: Allocator>(home: Term<A>, function: Term<A>, args: Term<A>) -> Option<Entry<A>>
-    ensures { option_map entry_of result
-        ≡ all_three entry_from (name_in (tree_of home)) (name_in (tree_of function)) (args_in (tree_of args)) }
+fn entry<A: Allocator + Copy>(
+    home: Term<A>,
+    function: Term<A>,
+    args: Term<A>,
+) -> Result<Option<Entry<A>>, AllocError>
+    ensures { IfOk result (λ o. option_map entry_of o
+        ≡ all_three entry_from (name_in (tree_of home)) (name_in (tree_of function)) (args_in (tree_of args))) }
 {
-    let (module, name) = two_names(home, function)?;
-    let args = arguments(args)?;
-    Some(Entry { module, name, args })
+    let Some((module, name)) = two_names(home, function) else {
+        return Ok(None);
+    };
+    let Some(args) = arguments(args)? else {
+        return Ok(None);
+    };
+    Ok(Some(Entry { module, name, args }))
 }
 
 /// `{process,M,F,Args}`
-fn process_form<A: Allocator>(fields: Vec<Term<A>, A>) -> Option<Form<A>>
-    ensures { option_map form_of result ≡ process_in (map tree_of fields.items) }
+fn process_form<A: Allocator + Copy>(fields: Vec<Term<A>, A>) -> Result<Option<Form<A>>, AllocError>
+    ensures { IfOk result (λ o. option_map form_of o ≡ process_in (map tree_of fields.items)) }
 {
-    let (_, home, function, args) = four(fields)?;
-    Some(Form::Process(entry(home, function, args)?))
+    let Some((_, home, function, args)) = four(fields) else {
+        return Ok(None);
+    };
+    let Some(entry) = entry(home, function, args)? else {
+        return Ok(None);
+    };
+    Ok(Some(Form::Process(entry)))
 }
 
 /// The form that gives the commands of a list of them.
-fn listed_commands<A: Allocator>(alloc: A, list: Term<A>) -> Result<Option<Form<A>>, AllocError>
+fn listed_commands<A: Allocator + Copy>(
+    alloc: A,
+    list: Term<A>,
+) -> Result<Option<Form<A>>, AllocError>
     ensures { IfOk result (λ o. option_map form_of o ≡ option_map controls (commands_in (tree_of list))) }
 {
     match commands(alloc, list)? {
@@ -105,7 +121,7 @@ fn listed_commands<A: Allocator>(alloc: A, list: Term<A>) -> Result<Option<Form<
 }
 
 /// `{control,Commands}`
-fn control_form<A: Allocator>(
+fn control_form<A: Allocator + Copy>(
     alloc: A,
     fields: Vec<Term<A>, A>,
 ) -> Result<Option<Form<A>>, AllocError>
@@ -127,7 +143,7 @@ fn form_of_tuple<A: Allocator + Copy>(
     if is_tagged(&fields, "function") {
         function_form(alloc, fields)
     } else if is_tagged(&fields, "process") {
-        Ok(process_form(fields))
+        process_form(fields)
     } else if is_tagged(&fields, "control") {
         control_form(alloc, fields)
     } else {
@@ -142,7 +158,7 @@ pub fn form_of_term<A: Allocator + Copy>(
 ) -> Result<Option<Form<A>>, AllocError>
     ensures { IfOk result (λ o. option_map form_of o ≡ form_in (tree_of term)) }
 {
-    let Some(fields) = tuple(term) else {
+    let Some(fields) = tuple(term)? else {
         return Ok(None);
     };
     form_of_tuple(alloc, fields)

@@ -22,12 +22,16 @@ use tn_flags::Class;
 use tn_term::{Atom, Term};
 
 /// The names of `{M,F}`.
-fn callee<A: Allocator>(term: Term<A>) -> Option<(Atom<A>, Atom<A>)>
-    ensures { result ≡ callee_in (tree_of term) }
+fn callee<A: Allocator + Copy>(term: Term<A>) -> Result<Option<(Atom<A>, Atom<A>)>, AllocError>
+    ensures { IfOk result (λ o. o ≡ callee_in (tree_of term)) }
 {
-    let fields = tuple(term)?;
-    let (module, function) = two(fields)?;
-    two_names(module, function)
+    let Some(fields) = tuple(term)? else {
+        return Ok(None);
+    };
+    let Some((module, function)) = two(fields) else {
+        return Ok(None);
+    };
+    Ok(two_names(module, function))
 }
 
 /// `{send,To,Msg}`
@@ -47,49 +51,76 @@ fn receive_step<A: Allocator>(fields: Vec<Term<A>, A>) -> Option<Step<A>>
 }
 
 /// The target, the names and the arguments of `V`, `{M,F}` and `Args`.
-fn remote_parts<A: Allocator>(
+fn remote_parts<A: Allocator + Copy>(
     v: Term<A>,
     function: Term<A>,
     args: Term<A>,
-) -> Option<(Option<Atom<A>>, (Atom<A>, Atom<A>), Arguments<A>)>
-    ensures { (f : Option Name → Name × Name → List Tree → StepOf) → option_map (λ p. f p.0 p.1 (args_of p.2)) result
-        ≡ all_three f (target_in (tree_of v)) (callee_in (tree_of function)) (args_in (tree_of args)) }
+) -> Result<Option<(Option<Atom<A>>, (Atom<A>, Atom<A>), Arguments<A>)>, AllocError>
+    ensures { IfOk result (λ o. (f : Option Name → Name × Name → List Tree → StepOf)
+        → option_map (λ p. f p.0 p.1 (args_of p.2)) o
+        ≡ all_three f (target_in (tree_of v)) (callee_in (tree_of function)) (args_in (tree_of args))) }
 {
-    let callee = callee(function)?;
-    let target = target(v)?;
-    Some((target, callee, arguments(args)?))
+    let Some(callee) = callee(function)? else {
+        return Ok(None);
+    };
+    let Some(target) = target(v) else {
+        return Ok(None);
+    };
+    let Some(args) = arguments(args)? else {
+        return Ok(None);
+    };
+    Ok(Some((target, callee, args)))
 }
 
 /// The call of `{M,F}` with `Args`, whose value goes to `V`.
-fn remote_call<A: Allocator>(v: Term<A>, function: Term<A>, args: Term<A>) -> Option<Step<A>>
-    ensures { option_map step_of result
-        ≡ all_three remote_call_of (target_in (tree_of v)) (callee_in (tree_of function)) (args_in (tree_of args)) }
+fn remote_call<A: Allocator + Copy>(
+    v: Term<A>,
+    function: Term<A>,
+    args: Term<A>,
+) -> Result<Option<Step<A>>, AllocError>
+    ensures { IfOk result (λ o. option_map step_of o
+        ≡ all_three remote_call_of (target_in (tree_of v)) (callee_in (tree_of function)) (args_in (tree_of args))) }
 {
-    let (target, (module, name), args) = remote_parts(v, function, args)?;
-    Some(Step::CallRemote {
+    let Some(parts) = remote_parts(v, function, args)? else {
+        return Ok(None);
+    };
+    let (target, (module, name), args) = parts;
+    Ok(Some(Step::CallRemote {
         target,
         module,
         name,
         args,
-    })
+    }))
 }
 
 /// The call of `F`, in the same module, with `Args`, whose value goes to `V`.
-fn local_call<A: Allocator>(v: Term<A>, function: Term<A>, args: Term<A>) -> Option<Step<A>>
-    ensures { option_map step_of result
-        ≡ all_three call_local (target_in (tree_of v)) (name_in (tree_of function)) (args_in (tree_of args)) }
+fn local_call<A: Allocator + Copy>(
+    v: Term<A>,
+    function: Term<A>,
+    args: Term<A>,
+) -> Result<Option<Step<A>>, AllocError>
+    ensures { IfOk result (λ o. option_map step_of o
+        ≡ all_three call_local (target_in (tree_of v)) (name_in (tree_of function)) (args_in (tree_of args))) }
 {
-    let name = name(function)?;
-    let target = target(v)?;
-    let args = arguments(args)?;
-    Some(Step::CallLocal { target, name, args })
+    let Some(name) = name(function) else {
+        return Ok(None);
+    };
+    let Some(target) = target(v) else {
+        return Ok(None);
+    };
+    let Some(args) = arguments(args)? else {
+        return Ok(None);
+    };
+    Ok(Some(Step::CallLocal { target, name, args }))
 }
 
 /// `{call,V,{M,F},Args}` or `{call,V,F,Args}`
-fn call_step<A: Allocator>(fields: Vec<Term<A>, A>) -> Option<Step<A>>
-    ensures { option_map step_of result ≡ call_in (map tree_of fields.items) }
+fn call_step<A: Allocator + Copy>(fields: Vec<Term<A>, A>) -> Result<Option<Step<A>>, AllocError>
+    ensures { IfOk result (λ o. option_map step_of o ≡ call_in (map tree_of fields.items)) }
 {
-    let (_, v, function, args) = four(fields)?;
+    let Some((_, v, function, args)) = four(fields) else {
+        return Ok(None);
+    };
     if is_tuple(&function) {
         remote_call(v, function, args)
     } else {
@@ -98,31 +129,41 @@ fn call_step<A: Allocator>(fields: Vec<Term<A>, A>) -> Option<Step<A>>
 }
 
 /// `{'catch',V,{M,F},Args}`
-fn catch_step<A: Allocator>(fields: Vec<Term<A>, A>) -> Option<Step<A>>
-    ensures { option_map step_of result ≡ of_callee_in catch_of (map tree_of fields.items) }
+fn catch_step<A: Allocator + Copy>(fields: Vec<Term<A>, A>) -> Result<Option<Step<A>>, AllocError>
+    ensures { IfOk result (λ o. option_map step_of o ≡ of_callee_in catch_of (map tree_of fields.items)) }
 {
-    let (_, v, function, args) = four(fields)?;
-    let (target, (module, name), args) = remote_parts(v, function, args)?;
-    Some(Step::Catch {
+    let Some((_, v, function, args)) = four(fields) else {
+        return Ok(None);
+    };
+    let Some(parts) = remote_parts(v, function, args)? else {
+        return Ok(None);
+    };
+    let (target, (module, name), args) = parts;
+    Ok(Some(Step::Catch {
         target,
         module,
         name,
         args,
-    })
+    }))
 }
 
 /// `{spawn,V,{M,F},Args}`
-fn spawn_step<A: Allocator>(fields: Vec<Term<A>, A>) -> Option<Step<A>>
-    ensures { option_map step_of result ≡ of_callee_in spawn_of (map tree_of fields.items) }
+fn spawn_step<A: Allocator + Copy>(fields: Vec<Term<A>, A>) -> Result<Option<Step<A>>, AllocError>
+    ensures { IfOk result (λ o. option_map step_of o ≡ of_callee_in spawn_of (map tree_of fields.items)) }
 {
-    let (_, v, function, args) = four(fields)?;
-    let (target, (module, name), args) = remote_parts(v, function, args)?;
-    Some(Step::Spawn {
+    let Some((_, v, function, args)) = four(fields) else {
+        return Ok(None);
+    };
+    let Some(parts) = remote_parts(v, function, args)? else {
+        return Ok(None);
+    };
+    let (target, (module, name), args) = parts;
+    Ok(Some(Step::Spawn {
         target,
         module,
         name,
         args,
-    })
+    }))
 }
 
 /// The `T` of `{Tag,T}`.
@@ -166,13 +207,15 @@ fn raise_step<A: Allocator>(fields: Vec<Term<A>, A>, class: Class) -> Option<Ste
 }
 
 /// The step that a tuple of these fields stands for.
-fn step_of_tuple<A: Allocator>(fields: Vec<Term<A>, A>) -> Option<Step<A>>
-    ensures { option_map step_of result ≡ step_of_fields (map tree_of fields.items) }
+fn step_of_tuple<A: Allocator + Copy>(
+    fields: Vec<Term<A>, A>,
+) -> Result<Option<Step<A>>, AllocError>
+    ensures { IfOk result (λ o. option_map step_of o ≡ step_of_fields (map tree_of fields.items)) }
 {
     if is_tagged(&fields, "send") {
-        send_step(fields)
+        Ok(send_step(fields))
     } else if is_tagged(&fields, "receive") {
-        receive_step(fields)
+        Ok(receive_step(fields))
     } else if is_tagged(&fields, "call") {
         call_step(fields)
     } else if is_tagged(&fields, "catch") {
@@ -180,39 +223,45 @@ fn step_of_tuple<A: Allocator>(fields: Vec<Term<A>, A>) -> Option<Step<A>>
     } else if is_tagged(&fields, "spawn") {
         spawn_step(fields)
     } else if is_tagged(&fields, "link") {
-        link_step(fields)
+        Ok(link_step(fields))
     } else if is_tagged(&fields, "unlink") {
-        unlink_step(fields)
+        Ok(unlink_step(fields))
     } else if is_tagged(&fields, "return") {
-        return_step(fields)
+        Ok(return_step(fields))
     } else if is_tagged(&fields, "error") {
-        raise_step(fields, Class::Error)
+        Ok(raise_step(fields, Class::Error))
     } else if is_tagged(&fields, "throw") {
-        raise_step(fields, Class::Throw)
+        Ok(raise_step(fields, Class::Throw))
     } else if is_tagged(&fields, "exit") {
-        raise_step(fields, Class::Exit)
+        Ok(raise_step(fields, Class::Exit))
     } else {
-        None
+        Ok(None)
     }
 }
 
 /// The step that the term stands for, if it has a shape.
-pub fn step<A: Allocator>(term: Term<A>) -> Option<Step<A>>
-    ensures { option_map step_of result ≡ step_in (tree_of term) }
+pub fn step<A: Allocator + Copy>(term: Term<A>) -> Result<Option<Step<A>>, AllocError>
+    ensures { IfOk result (λ o. option_map step_of o ≡ step_in (tree_of term)) }
 {
-    step_of_tuple(tuple(term)?)
+    match tuple(term)? {
+        Some(fields) => Ok(step_of_tuple(fields)?),
+        None => Ok(None),
+    }
 }
 
 /// The steps, where the term is a list of steps.
-pub fn steps<A: Allocator>(alloc: A, term: Term<A>) -> Result<Option<Vec<Step<A>, A>>, AllocError>
+pub fn steps<A: Allocator + Copy>(
+    alloc: A,
+    term: Term<A>,
+) -> Result<Option<Vec<Step<A>, A>>, AllocError>
     ensures { IfOk result (λ o. option_map (λ v. map step_of v.items) o ≡ steps_in (tree_of term)) }
 {
-    let Some(terms) = list(term) else {
+    let Some(terms) = list(term)? else {
         return Ok(None);
     };
     let mut steps = Vec::new(alloc);
     for term in terms {
-        let Some(step) = step(term) else {
+        let Some(step) = step(term)? else {
             return Ok(None);
         };
         steps.push(step)?;

@@ -36,7 +36,7 @@ impl<A: Allocator + Copy> MessageSink<A> for TotalSink<A> {
     fn keep_reply(&mut self, alloc: A, reply: &Term<A>) -> Result<(), AllocError>
         ensures { IfOk result (λ _. IsOneMore AreMessages (tree_of reply.now) self.old self.new) }
     {
-        let copy = reply.copy_into(alloc)?;
+        let copy = reply.share()?;
         let written = WrittenTerm::new(alloc, copy)?;
         self.messages.push(SharedMessage::new(written))?;
         Ok(())

@@ -16,3 +16,4 @@ pub mod Outcomes
 pub mod SamePlaces
 pub mod Reversals
 pub mod Values
+pub mod Concerns

@@ -83,7 +83,7 @@ none_there ms i k past same =
     ∙ at_place (map process_marks_seen ms) (64 - length ms) i
     ∙ ap (λ o. unwrap_or o []) (slice_get-map process_marks_seen ms i ∙ ap (option_map process_marks_seen) (slice_get_past ms i past))
 
-same_there : (ys : List (List Mark)) (i : ℕ) → unwrap_or (slice_get ys i) [] ≡ [] → slice_set ys i [] ≡ ys
+pub same_there : (ys : List (List Mark)) (i : ℕ) → unwrap_or (slice_get ys i) [] ≡ [] → slice_set ys i [] ≡ ys
 same_there [] i h = refl
 same_there (y ∷ ys) zero h = ap (λ z. z ∷ ys) (sym h)
 same_there (y ∷ ys) (suc i) h = ap (λ zs. y ∷ zs) (same_there ys i h)

@@ -1,5 +1,5 @@
 -- What the steps of telling an event are of, and what they give.
-use Rattle.std.specs.Prelude.{ℕ, Bool, List, [], map, Option}
+use Rattle.std.specs.Prelude.{ℕ, Bool, List, [], map, Option, None}
 use Rattle.std.specs.Borrow.{Bor}
 use Rattle.std.specs.Option.{option_map}
 use Rattle.std.specs.declared.vec.Vec.{Vec}
@@ -35,7 +35,11 @@ message_in m = option_map message_seen m
 abbrev pub event_result : {A B : Type 0} → State A → Option (Message B) → EventResult
 event_result s m = (state_seen s, message_in m)
 
--- the same, where the message is a term
+-- the session as it was, without a message
+abbrev pub no_report : {A : Type 0} → State A → EventResult
+no_report s = (state_seen s, None)
+
+-- the same as the first, where the message is a term
 abbrev pub reported_as_term : {A B : Type 0} → State A → Option (Term B) → EventResult
 reported_as_term s m = (state_seen s, option_map tree_of m)
 

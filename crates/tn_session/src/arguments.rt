@@ -135,7 +135,7 @@ pub fn pattern_of<A: Allocator + Copy>(
     ensures { IfOk result (Covers (trace_pattern_of (tree_of term.now))) }
 {
     match term {
-        Term::Tuple(fields) => pattern_in(alloc, fields),
+        Term::Tuple(fields) => pattern_in(alloc, &**fields),
         _ => Ok(None),
     }
 }
@@ -165,7 +165,7 @@ pub fn options_of<A: Allocator>(term: &Term<A>) -> Option<bool>
     ensures { result ≡ options_of (tree_of term.now) }
 {
     match term {
-        Term::List(items) => options_in(items),
+        Term::List(items) => options_in(&**items),
         _ => None,
     }
 }
@@ -182,7 +182,7 @@ fn is_empty_list<A: Allocator>(term: &Term<A>) -> bool
     ensures { result ≡ same (tree_of term.now) (list none) }
 {
     match term {
-        Term::List(items) => is_empty(items),
+        Term::List(items) => is_empty(&**items),
         _ => false,
     }
 }

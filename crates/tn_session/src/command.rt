@@ -96,7 +96,7 @@ pub fn flags_of<A: Allocator>(term: &Term<A>) -> Option<Flags>
     ensures { option_map flags_view result ≡ flags_listed (tree_of term.now) }
 {
     match term {
-        Term::List(items) => flags_in(items),
+        Term::List(items) => flags_in(&**items),
         _ => None,
     }
 }

@@ -258,7 +258,7 @@ fn tuple_of_two<B: Allocator + Copy>(
     let mut items = Vec::with_capacity(alloc, 2)?;
     items.push(first)?;
     items.push(second)?;
-    Ok(Term::Tuple(items))
+    Ok(Term::tuple(items)?)
 }
 
 /// A tuple of three terms.
@@ -274,7 +274,7 @@ fn tuple_of_three<B: Allocator + Copy>(
     items.push(first)?;
     items.push(second)?;
     items.push(third)?;
-    Ok(Term::Tuple(items))
+    Ok(Term::tuple(items)?)
 }
 
 /// `{M,F,Arity}`
@@ -300,7 +300,7 @@ fn list_of<A: Allocator, B: Allocator + Copy>(
     for arg in args {
         copies.push(arg.term().copy_into(alloc)?)?;
     }
-    Ok(Term::List(copies))
+    Ok(Term::list(copies)?)
 }
 
 /// `{M,F,Args}`
@@ -314,7 +314,7 @@ fn call_with_args<A: Allocator, B: Allocator + Copy>(
     let module = Term::Atom(mfa.module.copy_into(alloc)?);
     let name = Term::Atom(mfa.name.copy_into(alloc)?);
     let args = list_of(alloc, args)?;
-    tuple_of_three(alloc, module, name, args)
+    Ok(tuple_of_three(alloc, module, name, args)?)
 }
 
 /// Puts a copy of the last value after the others, where there is one.

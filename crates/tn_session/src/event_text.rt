@@ -192,7 +192,7 @@ fn message_term<A: Allocator + Copy>(
 {
     let mut items = elements(alloc, event, message.short)?;
     push_last(alloc, message.last, &mut items)?;
-    Ok(Term::Tuple(items))
+    Ok(Term::tuple(items)?)
 }
 
 /// The event's message that is as short as this one and has its last value, beside its text.

@@ -15,6 +15,7 @@ mod arguments;
 mod command;
 mod comparison;
 mod compiled_spec;
+mod concern;
 mod copies;
 mod elements;
 mod event;

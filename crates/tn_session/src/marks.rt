@@ -1,9 +1,9 @@
 // The marks of frames: which one effects ask for, and those that a session has, by process.
-ghost use Rattle.std.specs.Prelude.{◌≡◌, ◌<◌, ◌==◌, not, [], Some, IfOk, OnOk, vec_len};
+ghost use Rattle.std.specs.Prelude.{◌≡◌, ◌<◌, ◌==◌, not, [], Some, IfOk, IsFalse, OnOk, vec_len};
 ghost use Rattle.std.specs.List.{filter};
 ghost use Rattle.std.specs.Option.{option_map};
 ghost use Rattle.def_session.specs.State as definition;
-ghost use Rattle.def_session.specs.State.{with_marks};
+ghost use Rattle.def_session.specs.State.{marks_at, with_marks};
 ghost use Rattle.def_session.specs.Session as session;
 ghost use Rattle.def_session.specs.Session.{mark_frame};
 ghost use Rattle.tn_session.specs.EventSteps.{asks};
@@ -46,6 +46,16 @@ impl<A: Allocator + Copy> State<A> {
         ensures { result ≡ session.is_marked (state_seen self.now) pid depth }
     {
         self.mark_of(pid, depth).is_some()
+    }
+
+    /// Whether a frame of the process is marked.
+    pub(crate) fn has_marks(&self, pid: u32) -> bool
+        ensures { IsFalse result → marks_at (state_seen self.now) pid ≡ [] }
+    {
+        match self.marks.get(place_of(pid)) {
+            Some(marks) => !marks.is_empty(),
+            None => false,
+        }
     }
 
     /// Marks the frame of this depth. An error is refused memory.

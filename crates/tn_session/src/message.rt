@@ -29,7 +29,7 @@ impl<A: Allocator> Message<'_, A> {
     {
         let mut items = elements(alloc, self.event, self.short)?;
         push_last(alloc, self.last, &mut items)?;
-        Ok(Term::Tuple(items))
+        Ok(Term::tuple(items)?)
     }
 
     /// Appends the message's text. After an `Err`, which is refused memory, the vector is as it was.

@@ -29,7 +29,7 @@ fn unsupported_term<A: Allocator + Copy>(alloc: A, name: Atom<A>) -> Result<Term
     let mut items = Vec::with_capacity(alloc, 2)?;
     items.push(kind)?;
     items.push(Term::Atom(name))?;
-    Ok(Term::Tuple(items))
+    Ok(Term::tuple(items)?)
 }
 
 impl<A: Allocator + Copy> Reply<A> {

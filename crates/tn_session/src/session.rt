@@ -19,7 +19,7 @@ pub struct Session<A: Allocator> {
 }
 
 impl<A: Allocator + Copy> Session<A> {
-    ghost use Rattle.std.specs.Prelude.{◌≡◌, ℕ, Some, IsNone, IfOk, IfSome, OnErr, map};
+    ghost use Rattle.std.specs.Prelude.{◌≡◌, ℕ, Some, None, IsFalse, IsNone, IfOk, IfSome, OnErr, map};
     ghost use Rattle.std.specs.Option.{IsSomeAnd, option_map};
     ghost use Rattle.def_session.specs.State.{live, new_session};
     ghost use Rattle.def_session.specs.Session.{event_reported};
@@ -147,6 +147,14 @@ impl<A: Allocator + Copy> Session<A> {
                 Err(refused)
             }
         }
+    }
+
+    /// Whether the event may concern the session. Where it is false the session stays as it is, and reports nothing.
+    pub fn concerns(&self, event: &Event<A>) -> bool
+        ensures { let e = event_of event.now in IsFalse result → IsSomeAnd (value_in self.now) (λ s.
+            next_session s (event_reported s.state e) ≡ (value_in self.now, None)) }
+    {
+        self.is_spent || self.state.concerns(event)
     }
 }
 

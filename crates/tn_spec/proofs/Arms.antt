@@ -2,13 +2,13 @@
 use Rattle.std.proofs.Common.{◌≡◌, ◌∙◌, ℕ, List, sym, ap, subst}
 use Rattle.std.specs.Prelude.{Ok, Result}
 use Rattle.std.specs.declared.vec.Vec.{Vec}
-use Rattle.def_term.specs.Tree.{tuple}
+use Rattle.def_term.specs.Tree.{tuple, list}
 use Rattle.def_spec.specs.Matching as matching
 use Rattle.def_spec.specs.Expressions as ex
 use Rattle.def_spec.specs.Reading.{pattern_of, pattern_of_kind, patterns_of, atom_kind, expr_of, atom_expr_of_kind}
 use Rattle.tn_term.specs.Views.{tree_of, trees_of}
-use Rattle.tn_term.specs.declared.term.Term.{Term, Atom, Pid, Tuple, List as ListOf}
-use Rattle.tn_term.proofs.Views.{tree_of_atom, tree_of_pid, tree_of_tuple, tree_of_list}
+use Rattle.tn_term.specs.declared.term.Term.{Term, Atom, Pid}
+use Rattle.tn_term.proofs.Views.{tree_of_atom, tree_of_pid}
 use Rattle.tn_spec.specs.declared.fault.SpecFault.{SpecFault}
 use Rattle.tn_spec.specs.declared.pattern.Pattern as pattern
 use Rattle.tn_spec.specs.declared.pattern.Pattern.{Pattern}
@@ -30,19 +30,19 @@ module _ {A : Type 0} (t : Term A) where
   pub atom_pattern_read : (s : List ℕ) (r : Result (Pattern A) (SpecFault A)) → t ≡ Atom s → IsRead pattern_seen (pattern_of_kind s (atom_kind s)) r → IsRead pattern_seen (pattern_of (tree_of t)) r
   atom_pattern_read s r e read = subst (λ u. IsRead pattern_seen (pattern_of u) r) (sym (ap tree_of e ∙ tree_of_atom A s)) read
 
-  pub tuple_pattern : (v : Vec (Term A) A) (w : Vec (Pattern A) A) → t ≡ Tuple v → patterns_of (trees_of v.items) ≡ Ok (pattern_list w) → pattern_of (tree_of t) ≡ Ok (pattern_seen (pattern.Tuple w))
+  pub tuple_pattern : (v : Vec (Term A) A) (w : Vec (Pattern A) A) → tree_of t ≡ tuple (trees_of v.items) → patterns_of (trees_of v.items) ≡ Ok (pattern_list w) → pattern_of (tree_of t) ≡ Ok (pattern_seen (pattern.Tuple w))
   tuple_pattern v w e read =
-      ap pattern_of (ap tree_of e ∙ tree_of_tuple v) ∙ ok_then (patterns_of (trees_of v.items)) _ (pattern_list w) read ∙ ap Ok (sym (pattern_seen_tuple w))
+      ap pattern_of e ∙ ok_then (patterns_of (trees_of v.items)) _ (pattern_list w) read ∙ ap Ok (sym (pattern_seen_tuple w))
 
-  pub tuple_pattern_fails : (v : Vec (Term A) A) (f : SpecFault A) → t ≡ Tuple v → IsFaultOf (patterns_of (trees_of v.items)) f → IsFaultOf (pattern_of (tree_of t)) f
-  tuple_pattern_fails v f e fault = subst (λ u. IsFaultOf (pattern_of u) f) (sym (ap tree_of e ∙ tree_of_tuple v)) (fault_then _ _ f fault)
+  pub tuple_pattern_fails : (v : Vec (Term A) A) (f : SpecFault A) → tree_of t ≡ tuple (trees_of v.items) → IsFaultOf (patterns_of (trees_of v.items)) f → IsFaultOf (pattern_of (tree_of t)) f
+  tuple_pattern_fails v f e fault = subst (λ u. IsFaultOf (pattern_of u) f) (sym e) (fault_then _ _ f fault)
 
-  pub list_pattern : (v : Vec (Term A) A) (w : Vec (Pattern A) A) → t ≡ ListOf v → patterns_of (trees_of v.items) ≡ Ok (pattern_list w) → pattern_of (tree_of t) ≡ Ok (pattern_seen (pattern.List w))
+  pub list_pattern : (v : Vec (Term A) A) (w : Vec (Pattern A) A) → tree_of t ≡ list (trees_of v.items) → patterns_of (trees_of v.items) ≡ Ok (pattern_list w) → pattern_of (tree_of t) ≡ Ok (pattern_seen (pattern.List w))
   list_pattern v w e read =
-      ap pattern_of (ap tree_of e ∙ tree_of_list v) ∙ ok_then (patterns_of (trees_of v.items)) _ (pattern_list w) read ∙ ap Ok (sym (pattern_seen_list w))
+      ap pattern_of e ∙ ok_then (patterns_of (trees_of v.items)) _ (pattern_list w) read ∙ ap Ok (sym (pattern_seen_list w))
 
-  pub list_pattern_fails : (v : Vec (Term A) A) (f : SpecFault A) → t ≡ ListOf v → IsFaultOf (patterns_of (trees_of v.items)) f → IsFaultOf (pattern_of (tree_of t)) f
-  list_pattern_fails v f e fault = subst (λ u. IsFaultOf (pattern_of u) f) (sym (ap tree_of e ∙ tree_of_list v)) (fault_then _ _ f fault)
+  pub list_pattern_fails : (v : Vec (Term A) A) (f : SpecFault A) → tree_of t ≡ list (trees_of v.items) → IsFaultOf (patterns_of (trees_of v.items)) f → IsFaultOf (pattern_of (tree_of t)) f
+  list_pattern_fails v f e fault = subst (λ u. IsFaultOf (pattern_of u) f) (sym e) (fault_then _ _ f fault)
 
   -- ---- expressions
 
@@ -50,8 +50,8 @@ module _ {A : Type 0} (t : Term A) where
     pub atom_expr_read : (s : List ℕ) (r : Result (Expr A) (SpecFault A)) → t ≡ Atom s → IsRead expr_seen (atom_expr_of_kind head s (atom_kind s)) r → IsRead expr_seen (expr_of d part head (tree_of t)) r
     atom_expr_read s r e read = subst (λ u. IsRead expr_seen (expr_of d part head u) r) (sym (ap tree_of e ∙ tree_of_atom A s)) read
 
-    pub tuple_expr_read : (v : Vec (Term A) A) (r : Result (Expr A) (SpecFault A)) → t ≡ Tuple v → IsRead expr_seen (expr_of d part head (tuple (trees_of v.items))) r → IsRead expr_seen (expr_of d part head (tree_of t)) r
-    tuple_expr_read v r e read = subst (λ u. IsRead expr_seen (expr_of d part head u) r) (sym (ap tree_of e ∙ tree_of_tuple v)) read
+    pub tuple_expr_read : (v : Vec (Term A) A) (r : Result (Expr A) (SpecFault A)) → tree_of t ≡ tuple (trees_of v.items) → IsRead expr_seen (expr_of d part head (tuple (trees_of v.items))) r → IsRead expr_seen (expr_of d part head (tree_of t)) r
+    tuple_expr_read v r e read = subst (λ u. IsRead expr_seen (expr_of d part head u) r) (sym e) read
 
     pub pid_expr : (n : ℕ) → t ≡ Pid n → expr_of d part head (tree_of t) ≡ Ok (expr_seen {A = A} (expr.Constant (Pid n)))
     pid_expr n e =

@@ -25,7 +25,7 @@ fn elements<A: Allocator>(term: &Term<A>) -> Option<&Vec<Term<A>, A>>
     ensures { option_map (λ v. trees_of v.now.items) result ≡ list_elements (tree_of term.now) }
 {
     match term {
-        Term::List(v) => Some(v),
+        Term::List(v) => Some(&**v),
         _ => None,
     }
 }
@@ -80,7 +80,7 @@ pub fn clause<A: Allocator + Copy>(
     ensures { IsRead clause_seen (clause_of (dialect_of dialect) (tree_of term.now)) result }
 {
     match term {
-        Term::Tuple(fields) => clause_of_fields(alloc, fields, dialect),
+        Term::Tuple(fields) => clause_of_fields(alloc, &**fields, dialect),
         _ => Err(SpecFault::Badarg),
     }
 }

@@ -87,8 +87,8 @@ fn expr<A: Allocator + Copy>(
         Term::Int(n) => Ok(Expr::Constant(Term::Int(*n))),
         Term::Atom(name) => atom_expr(alloc, name, head),
         Term::Pid(n) => Ok(Expr::Constant(Term::Pid(*n))),
-        Term::Tuple(v) => tuple_expr(alloc, v, dialect, part, head),
-        Term::List(v) => Ok(Expr::List(exprs(alloc, v, 0, dialect, part, head)?)),
+        Term::Tuple(v) => tuple_expr(alloc, &**v, dialect, part, head),
+        Term::List(v) => Ok(Expr::List(exprs(alloc, &**v, 0, dialect, part, head)?)),
     }
 }
 
@@ -109,7 +109,7 @@ fn tuple_expr<A: Allocator + Copy>(
     match &terms[0] {
         Term::Tuple(v) => {
             if terms.len() == 1 {
-                Ok(Expr::Tuple(exprs(alloc, v, 0, dialect, part, head)?))
+                Ok(Expr::Tuple(exprs(alloc, &**v, 0, dialect, part, head)?))
             } else {
                 Err(SpecFault::Badarg)
             }
@@ -134,7 +134,7 @@ fn call_expr<A: Allocator + Copy>(
 {
     let args = terms.len() - 1;
     if is_const(name.text(), args) {
-        return Ok(Expr::Constant(terms[1].copy_into(alloc)?));
+        return Ok(Expr::Constant(terms[1].share()?));
     }
     let called = callee_of(alloc, dialect, part, name, args)?;
     let args = exprs(alloc, terms, 1, dialect, part, head)?;

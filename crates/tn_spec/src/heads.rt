@@ -36,8 +36,8 @@ fn pattern<A: Allocator + Copy>(alloc: A, term: &Term<A>) -> Result<Pattern<A>, 
         Term::Int(n) => Ok(Pattern::Only(Term::Int(*n))),
         Term::Atom(name) => atom_pattern(alloc, name),
         Term::Pid(n) => Ok(Pattern::Only(Term::Pid(*n))),
-        Term::Tuple(v) => Ok(Pattern::Tuple(patterns(alloc, v)?)),
-        Term::List(v) => Ok(Pattern::List(patterns(alloc, v)?)),
+        Term::Tuple(v) => Ok(Pattern::Tuple(patterns(alloc, &**v)?)),
+        Term::List(v) => Ok(Pattern::List(patterns(alloc, &**v)?)),
     }
 }
 
@@ -79,7 +79,7 @@ pub fn head<A: Allocator + Copy>(alloc: A, term: &Term<A>) -> Result<Head<A>, Sp
 {
     match term {
         Term::Atom(name) => atom_head(name.text()),
-        Term::List(v) => Ok(Head::List(patterns(alloc, v)?)),
+        Term::List(v) => Ok(Head::List(patterns(alloc, &**v)?)),
         _ => Err(SpecFault::Badarg),
     }
 }

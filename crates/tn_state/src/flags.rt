@@ -72,7 +72,7 @@ fn put_names<A: Allocator + Copy>(
     if names.is_empty() {
         return Ok(());
     }
-    let flags = pair(alloc, "flags", Term::List(names))?;
+    let flags = pair(alloc, "flags", Term::list(names)?)?;
     let mut others = Vec::new(alloc);
     others.push(flags)?;
     put_line(owner, &others, out)

@@ -62,7 +62,7 @@ pub(crate) fn tuple_of_two<A: Allocator + Copy>(
     let mut items = Vec::with_capacity(alloc, 2)?;
     items.push(first)?;
     items.push(second)?;
-    Ok(Term::Tuple(items))
+    Ok(Term::tuple(items)?)
 }
 
 /// The tuple of a word and a term.
@@ -78,7 +78,7 @@ pub(crate) fn pair<A: Allocator + Copy>(
     let mut items = Vec::with_capacity(alloc, 2)?;
     items.push(first)?;
     items.push(term)?;
-    Ok(Term::Tuple(items))
+    Ok(Term::tuple(items)?)
 }
 
 /// The tuple of three terms.
@@ -94,7 +94,7 @@ fn tuple_of_three<A: Allocator + Copy>(
     items.push(first)?;
     items.push(second)?;
     items.push(third)?;
-    Ok(Term::Tuple(items))
+    Ok(Term::tuple(items)?)
 }
 
 /// The tuple of the names of a function and its number of parameters.

@@ -35,7 +35,7 @@ fn variable_term<A: Allocator + Copy>(
     ensures { IfOk result (λ t. tree_of t ≡ binding_term (name_and_term variable.now)) }
 {
     let name = variable.name().copy_into(alloc)?;
-    let value = variable.value().copy_into(alloc)?;
+    let value = variable.value().share()?;
     tuple_of_two(alloc, Term::Atom(name), value)
 }
 
@@ -172,7 +172,7 @@ fn push_messages<A: Allocator + Copy>(
     ensures { OnOk result (map tree_of terms.new.items ≡ map tree_of terms.old.items ++ map shared_tree messages.now) }
 {
     for message in messages {
-        terms.push(message.term().copy_into(alloc)?)?;
+        terms.push(message.term().share()?)?;
     }
     Ok(())
 }
@@ -188,7 +188,7 @@ fn messages_term<A: Allocator + Copy>(
     let (first, rest) = mailbox.as_slices();
     push_messages(alloc, first, &mut terms)?;
     push_messages(alloc, rest, &mut terms)?;
-    pair(alloc, "messages", Term::List(terms))
+    pair(alloc, "messages", Term::list(terms)?)
 }
 
 /// Appends the pid of a process, where it is linked.
@@ -213,7 +213,7 @@ fn links_term<A: Allocator + Copy>(alloc: A, links: &[bool; 64]) -> Result<Term<
     for place in 0..links.len() {
         push_pid(FIRST_PID + place as u32, links[place], &mut pids)?;
     }
-    pair(alloc, "links", Term::List(pids))
+    pair(alloc, "links", Term::list(pids)?)
 }
 
 /// Appends the reason of an exit signal, where one waits.
@@ -227,7 +227,7 @@ fn put_signal<A: Allocator + Copy>(
 {
     match signal {
         Some(reason) => {
-            let term = pair(alloc, "signal", reason.copy_into(alloc)?)?;
+            let term = pair(alloc, "signal", reason.share()?)?;
             put_term(&term, out)
         }
         None => Ok(()),

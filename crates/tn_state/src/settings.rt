@@ -71,7 +71,7 @@ fn is_empty_list<A: Allocator>(term: &Term<A>) -> bool
     ensures { result ≡ same (tree_of term.now) (list none) }
 {
     match term {
-        Term::List(items) => is_empty(items),
+        Term::List(items) => is_empty(&**items),
         _ => false,
     }
 }
@@ -281,14 +281,8 @@ fn put_function_setting<A: Allocator + Copy>(
     };
     match setting.kind {
         Kind::Off => Ok(()),
-        Kind::Plain => put_pattern(alloc, mfa, setting.local, Term::List(Vec::new(alloc)), out),
-        Kind::Spec => put_pattern(
-            alloc,
-            mfa,
-            setting.local,
-            setting.term.copy_into(alloc)?,
-            out,
-        ),
+        Kind::Plain => put_pattern(alloc, mfa, setting.local, Term::list(Vec::new(alloc))?, out),
+        Kind::Spec => put_pattern(alloc, mfa, setting.local, setting.term.share()?, out),
     }
 }
 
@@ -363,7 +357,7 @@ fn put_setting<A: Allocator + Copy>(
     match setting.kind {
         Kind::Off => put_setting_term(alloc, word, Term::word(alloc, "false")?, out),
         Kind::Plain => Ok(()),
-        Kind::Spec => put_setting_term(alloc, word, setting.term.copy_into(alloc)?, out),
+        Kind::Spec => put_setting_term(alloc, word, setting.term.share()?, out),
     }
 }
 

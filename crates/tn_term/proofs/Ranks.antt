@@ -1,6 +1,7 @@
 -- The kind of a term is the rank of its tree.
 use Rattle.std.proofs.Common.{◌≡◌, ◌∙◌, ◌↔◌, ℕ, ℤ, List, IsTrue, false, subst, sym, ap, refl}
 use Rattle.std.specs.declared.vec.Vec.{Vec}
+use Rattle.std.specs.declared.sync.Arc.{Arc}
 use Rattle.std.specs.Ordering.{nat_cmp}
 use Rattle.def_term.specs.Tree.{Tree, int, atom, pid, tuple, list}
 use Rattle.def_term.specs.Order.{rank, tree_cmp}
@@ -11,7 +12,7 @@ use Rattle.tn_term.specs.declared.term.Term.TheOpen.{Term-F}
 use Rattle.tn_term.proofs.Views.{tree_of_int, tree_of_atom, tree_of_pid, tree_of_tuple, tree_of_list}
 
 by_kind : {A : Type 0} (P : Term A → Type 0) → ((n : ℤ) → P (Int n)) → ((s : List ℕ) → P (Atom s)) → ((n : ℕ) → P (Pid n))
-    → ((v : Vec (Term A) A) → P (Tuple v)) → ((v : Vec (Term A) A) → P (ListOf v)) → (d : Term-F A (Term A)) → P (roll-Term A d)
+    → ((v : Arc (Vec (Term A) A) A) → P (Tuple v)) → ((v : Arc (Vec (Term A) A) A) → P (ListOf v)) → (d : Term-F A (Term A)) → P (roll-Term A d)
 by_kind P i a p u l (Term-F.Int n) = subst P (sym (rolls-Int n)) (i n)
 by_kind P i a p u l (Term-F.Atom s) = subst P (sym (rolls-Atom s)) (a s)
 by_kind P i a p u l (Term-F.Pid n) = subst P (sym (rolls-Pid n)) (p n)
@@ -19,7 +20,7 @@ by_kind P i a p u l (Term-F.Tuple v) = subst P (sym (rolls-Tuple v)) (u v)
 by_kind P i a p u l (Term-F.List v) = subst P (sym (rolls-List v)) (l v)
 
 kinds : {A : Type 0} (P : Term A → Type 0) → ((n : ℤ) → P (Int n)) → ((s : List ℕ) → P (Atom s)) → ((n : ℕ) → P (Pid n))
-    → ((v : Vec (Term A) A) → P (Tuple v)) → ((v : Vec (Term A) A) → P (ListOf v)) → (t : Term A) → P t
+    → ((v : Arc (Vec (Term A) A) A) → P (Tuple v)) → ((v : Arc (Vec (Term A) A) A) → P (ListOf v)) → (t : Term A) → P t
 kinds {A} P i a p u l t = subst P (roll-out-Term A t) (by_kind P i a p u l (out-Term A t))
 
 rank_int : (A : Type 0) (n : ℤ) → rank (tree_of {A = A} (Int n)) ≡ 0
@@ -31,10 +32,10 @@ rank_atom A s = ap rank (tree_of_atom A s)
 rank_pid : (A : Type 0) (n : ℕ) → rank (tree_of {A = A} (Pid n)) ≡ 2
 rank_pid A n = ap rank (tree_of_pid A n)
 
-rank_tuple : {A : Type 0} (v : Vec (Term A) A) → rank (tree_of (Tuple v)) ≡ 3
+rank_tuple : {A : Type 0} (v : Arc (Vec (Term A) A) A) → rank (tree_of (Tuple v)) ≡ 3
 rank_tuple v = ap rank (tree_of_tuple v)
 
-rank_list : {A : Type 0} (v : Vec (Term A) A) → rank (tree_of (ListOf v)) ≡ 4
+rank_list : {A : Type 0} (v : Arc (Vec (Term A) A) A) → rank (tree_of (ListOf v)) ≡ 4
 rank_list v = ap rank (tree_of_list v)
 
 no_int : {A : Type 0} (t : Term A) → ((n : ℤ) → t ≡ Int n → ⊥) → rank (tree_of t) ≡ 0 → ⊥
@@ -61,16 +62,16 @@ no_pid {A} = kinds (λ t. ((n : ℕ) → t ≡ Pid n → ⊥) → rank (tree_of 
     (λ v no e. cc (rank_tuple v))
     (λ v no e. cc (rank_list v))
 
-no_tuple : {A : Type 0} (t : Term A) → ((v : Vec (Term A) A) → t ≡ Tuple v → ⊥) → rank (tree_of t) ≡ 3 → ⊥
-no_tuple {A} = kinds (λ t. ((v : Vec (Term A) A) → t ≡ Tuple v → ⊥) → rank (tree_of t) ≡ 3 → ⊥)
+no_tuple : {A : Type 0} (t : Term A) → ((v : Arc (Vec (Term A) A) A) → t ≡ Tuple v → ⊥) → rank (tree_of t) ≡ 3 → ⊥
+no_tuple {A} = kinds (λ t. ((v : Arc (Vec (Term A) A) A) → t ≡ Tuple v → ⊥) → rank (tree_of t) ≡ 3 → ⊥)
     (λ n no e. cc (rank_int A n))
     (λ s no e. cc (rank_atom A s))
     (λ n no e. cc (rank_pid A n))
     (λ v no e. no v refl)
     (λ v no e. cc (rank_list v))
 
-no_list : {A : Type 0} (t : Term A) → ((v : Vec (Term A) A) → t ≡ ListOf v → ⊥) → rank (tree_of t) ≡ 4 → ⊥
-no_list {A} = kinds (λ t. ((v : Vec (Term A) A) → t ≡ ListOf v → ⊥) → rank (tree_of t) ≡ 4 → ⊥)
+no_list : {A : Type 0} (t : Term A) → ((v : Arc (Vec (Term A) A) A) → t ≡ ListOf v → ⊥) → rank (tree_of t) ≡ 4 → ⊥
+no_list {A} = kinds (λ t. ((v : Arc (Vec (Term A) A) A) → t ≡ ListOf v → ⊥) → rank (tree_of t) ≡ 4 → ⊥)
     (λ n no e. cc (rank_int A n))
     (λ s no e. cc (rank_atom A s))
     (λ n no e. cc (rank_pid A n))
@@ -87,10 +88,10 @@ only_atom s t x e never same = no_atom t never (sym same ∙ ap (λ z. rank (tre
 pub only_pid : {A B : Type 0} (s : Term A) (t : Term B) (x : ℕ) → s ≡ Pid x → ((y : ℕ) → t ≡ Pid y → ⊥) → rank (tree_of s) ≡ rank (tree_of t) → ⊥
 only_pid s t x e never same = no_pid t never (sym same ∙ ap (λ z. rank (tree_of z)) e ∙ rank_pid _ x)
 
-pub only_tuple : {A B : Type 0} (s : Term A) (t : Term B) (x : Vec (Term A) A) → s ≡ Tuple x → ((y : Vec (Term B) B) → t ≡ Tuple y → ⊥) → rank (tree_of s) ≡ rank (tree_of t) → ⊥
+pub only_tuple : {A B : Type 0} (s : Term A) (t : Term B) (x : Arc (Vec (Term A) A) A) → s ≡ Tuple x → ((y : Arc (Vec (Term B) B) B) → t ≡ Tuple y → ⊥) → rank (tree_of s) ≡ rank (tree_of t) → ⊥
 only_tuple s t x e never same = no_tuple t never (sym same ∙ ap (λ z. rank (tree_of z)) e ∙ rank_tuple x)
 
-pub only_list : {A B : Type 0} (s : Term A) (t : Term B) (x : Vec (Term A) A) → s ≡ ListOf x → ((y : Vec (Term B) B) → t ≡ ListOf y → ⊥) → rank (tree_of s) ≡ rank (tree_of t) → ⊥
+pub only_list : {A B : Type 0} (s : Term A) (t : Term B) (x : Arc (Vec (Term A) A) A) → s ≡ ListOf x → ((y : Arc (Vec (Term B) B) B) → t ≡ ListOf y → ⊥) → rank (tree_of s) ≡ rank (tree_of t) → ⊥
 only_list s t x e never same = no_list t never (sym same ∙ ap (λ z. rank (tree_of z)) e ∙ rank_list x)
 
 -- trees of two ranks differ

@@ -64,3 +64,14 @@ impl<A: Allocator> Atom<A> {
         })
     }
 }
+
+impl<A: Allocator + Copy> Atom<A> {
+    /// The same atom in the allocator that it lies in.
+    pub fn share(&self) -> Result<Atom<A>, AllocError>
+        ensures { IfOk result (λ a. a ≡ self.now) }
+    {
+        Ok(Atom {
+            text: self.text.clone()?,
+        })
+    }
+}

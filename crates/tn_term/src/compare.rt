@@ -74,10 +74,10 @@ pub fn order_terms<A: Allocator, B: Allocator>(one: &Term<A>, other: &Term<B>) -
         (Term::Atom(r), Term::Atom(s)) => r.text().cmp(s.text()),
         (Term::Pid(m), Term::Pid(n)) => m.cmp(n),
         (Term::Tuple(v), Term::Tuple(w)) => match v.len().cmp(&w.len()) {
-            Ordering::Equal => order_all(v, w),
+            Ordering::Equal => order_all(&**v, &**w),
             unequal => unequal,
         },
-        (Term::List(v), Term::List(w)) => order_all(v, w),
+        (Term::List(v), Term::List(w)) => order_all(&**v, &**w),
         _ => rank_of(one).cmp(&rank_of(other)),
     }
 }

@@ -14,7 +14,7 @@ impl<A: Allocator> Term<A> {
     {
         match self {
             Term::Int(_) | Term::Atom(_) | Term::Pid(_) => 0,
-            Term::Tuple(v) | Term::List(v) => deepest(v).saturating_add(1),
+            Term::Tuple(v) | Term::List(v) => deepest(&**v).saturating_add(1),
         }
     }
 
@@ -25,7 +25,7 @@ impl<A: Allocator> Term<A> {
     {
         match self {
             Term::Int(_) | Term::Atom(_) | Term::Pid(_) => 1,
-            Term::Tuple(v) | Term::List(v) => total_size(v).saturating_add(1),
+            Term::Tuple(v) | Term::List(v) => total_size(&**v).saturating_add(1),
         }
     }
 }

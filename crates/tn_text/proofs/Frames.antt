@@ -3,9 +3,8 @@ use Rattle.std.proofs.Common.{◌≡◌, ℕ, ◌+◌, ◌<◌, ◌≤◌, List,
 use Rattle.std.proofs.lemmas.List.{length-map}
 use Rattle.std.proofs.lemmas.Bool.{le-ltb, lt-ltb}
 use Rattle.def_text.specs.Faults.{misplaced, too_deep, too_large}
-use Rattle.tn_term.specs.Views.{tree_of}
-use Rattle.tn_term.specs.declared.term.Term.{Tuple, List as ListOf}
-use Rattle.tn_term.proofs.Views.{tree_of_tuple, tree_of_list}
+use Rattle.def_term.specs.Tree.{Tree, tuple, list}
+use Rattle.tn_term.specs.Views.{tree_of, trees_of}
 use Rattle.def_text.specs.Reading as reading
 use Rattle.def_text.specs.Reading.{inside, first, next, put, most, open_at, close_top, comma_at}
 use Rattle.tn_text.specs.declared.stack.Bracket.{Bracket}
@@ -35,13 +34,15 @@ shut limit b fs h = ap (λ c. cond c (Ok (inside first (reading.frame b [] ∷ f
 frames_top : {A : Type 0} (b : Bracket) (all rest : List (Frame A)) (top : Frame A) → all ≡ rest ++ top ∷ [] → top.bracket ≡ b → frames_of all ≡ reading.frame (bracket_of b) (map tree_of top.items.items) ∷ frames_of rest
 frames_top b all rest top taken is = frames_push all rest top taken ∙ ap (λ x. reading.frame (bracket_of x) (map tree_of top.items.items) ∷ frames_of rest) is
 
-pub closes_tuple : {A : Type 0} (b : Bracket) (all rest : List (Frame A)) (top : Frame A) → all ≡ rest ++ top ∷ [] → b ≡ Brace → top.bracket ≡ Brace → Ok (put (tree_of (Tuple top.items)) (frames_of rest)) ≡ close_top (bracket_of b) (frames_of all)
-closes_tuple b all rest top taken asked is =
-    ap (λ t. Ok (put t (frames_of rest))) (tree_of_tuple top.items) ∙ sym (ap₂ close_top (ap bracket_of asked) (frames_top Brace all rest top taken is))
+pub closes_tuple : {A : Type 0} (b : Bracket) (all rest : List (Frame A)) (top : Frame A) (t : Tree) → all ≡ rest ++ top ∷ [] → b ≡ Brace → top.bracket ≡ Brace → t ≡ tuple (trees_of top.items.items)
+    → Ok (put t (frames_of rest)) ≡ close_top (bracket_of b) (frames_of all)
+closes_tuple b all rest top t taken asked is e =
+    ap (λ u. Ok (put u (frames_of rest))) e ∙ sym (ap₂ close_top (ap bracket_of asked) (frames_top Brace all rest top taken is))
 
-pub closes_list : {A : Type 0} (b : Bracket) (all rest : List (Frame A)) (top : Frame A) → all ≡ rest ++ top ∷ [] → b ≡ Square → top.bracket ≡ Square → Ok (put (tree_of (ListOf top.items)) (frames_of rest)) ≡ close_top (bracket_of b) (frames_of all)
-closes_list b all rest top taken asked is =
-    ap (λ t. Ok (put t (frames_of rest))) (tree_of_list top.items) ∙ sym (ap₂ close_top (ap bracket_of asked) (frames_top Square all rest top taken is))
+pub closes_list : {A : Type 0} (b : Bracket) (all rest : List (Frame A)) (top : Frame A) (t : Tree) → all ≡ rest ++ top ∷ [] → b ≡ Square → top.bracket ≡ Square → t ≡ list (trees_of top.items.items)
+    → Ok (put t (frames_of rest)) ≡ close_top (bracket_of b) (frames_of all)
+closes_list b all rest top t taken asked is e =
+    ap (λ u. Ok (put u (frames_of rest))) e ∙ sym (ap₂ close_top (ap bracket_of asked) (frames_top Square all rest top taken is))
 
 pub brace_on_list : {A : Type 0} (b : Bracket) (all rest : List (Frame A)) (top : Frame A) → all ≡ rest ++ top ∷ [] → b ≡ Brace → top.bracket ≡ Square → close_top (bracket_of b) (frames_of all) ≡ Err misplaced
 brace_on_list b all rest top taken asked is = ap₂ close_top (ap bracket_of asked) (frames_top Square all rest top taken is)

@@ -9,9 +9,8 @@ use Rattle.std.proofs.lemmas.Str.{IsUtf8-from_ascii}
 use Rattle.std.proofs.lemmas.Str.Ascii.{IsAscii-nil, IsAscii-cons}
 use Rattle.def_term.specs.Tree.{Tree, int, atom, list, more, of_elements, count, depth, greatest_depth}
 use Rattle.def_term.specs.Atoms.{IsAtomText}
-use Rattle.tn_term.specs.declared.term.Term.{Term, List as ListOf}
-use Rattle.tn_term.specs.Views.{tree_of}
-use Rattle.tn_term.proofs.Views.{tree_of_list}
+use Rattle.tn_term.specs.declared.term.Term.{Term}
+use Rattle.tn_term.specs.Views.{tree_of, trees_of}
 use Rattle.def_text.specs.Tokens.{all_are, is_printable, in_quotes, escaped_in, IsQuoted}
 use Rattle.def_text.specs.Grammar.{of_codes}
 use Rattle.def_text.specs.Limits.{sizes_fit, all_sizes_fit}
@@ -90,8 +89,8 @@ code_more xs i made new y below grown same so_far =
     ap (map tree_of) grown ∙ map-append tree_of made (y ∷ []) ∙ ap (λ zs. zs ++ tree_of y ∷ []) so_far
     ∙ ap (λ z. map (λ c. int (pos c)) (take i xs) ++ z ∷ []) same ∙ sym (map_more (λ c. int (pos c)) xs i 0 below)
 
-pub codes_done : {A : Type 0} (xs : List ℕ) (v : Vec (Term A) A) (i : ℕ) → length xs ≤ i → map tree_of v.items ≡ map (λ c. int (pos c)) (take i xs) → tree_of (ListOf v) ≡ list (of_codes xs)
-codes_done xs v i over so_far = tree_of_list v ∙ ap (λ ts. list (of_elements ts)) (so_far ∙ ap (map (λ c. int (pos c))) (take_all i xs over)) ∙ ap list (codes_seen xs)
+pub codes_done : {A : Type 0} (xs : List ℕ) (v : Vec (Term A) A) (i : ℕ) → length xs ≤ i → map tree_of v.items ≡ map (λ c. int (pos c)) (take i xs) → list (trees_of v.items) ≡ list (of_codes xs)
+codes_done xs v i over so_far = ap (λ ts. list (of_elements ts)) (so_far ∙ ap (map (λ c. int (pos c))) (take_all i xs over)) ∙ ap list (codes_seen xs)
 
 -- printable characters that are no atom's text are too many
 printable_all : (s : List ℕ) → all_are is_printable s ≡ true → All (λ b. (32 ≤ b) × (b ≤ 126)) s

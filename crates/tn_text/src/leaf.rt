@@ -124,5 +124,5 @@ fn list_of<A: Allocator + Copy>(alloc: A, codes: &[u8]) -> Result<Term<A>, Alloc
     for code in codes {
         items.push(Term::Int(i64::from(*code)))?;
     }
-    Ok(Term::List(items))
+    Ok(Term::list(items)?)
 }

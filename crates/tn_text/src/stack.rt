@@ -98,7 +98,7 @@ pub fn open<A: Allocator>(
 }
 
 /// The innermost tuple or list ends.
-pub fn close<A: Allocator>(
+pub fn close<A: Allocator + Copy>(
     bracket: Bracket,
     frames: Vec<Frame<A>, A>,
 ) -> Result<Progress<A>, StepError>
@@ -108,8 +108,14 @@ pub fn close<A: Allocator>(
     match frames.pop() {
         None => Err(StepError::Misplaced),
         Some(top) => match (bracket, top.bracket) {
-            (Bracket::Brace, Bracket::Brace) => put_term(Term::Tuple(top.items), frames),
-            (Bracket::Square, Bracket::Square) => put_term(Term::List(top.items), frames),
+            (Bracket::Brace, Bracket::Brace) => match Term::tuple(top.items) {
+                Ok(term) => put_term(term, frames),
+                Err(_) => Err(StepError::OutOfMemory),
+            },
+            (Bracket::Square, Bracket::Square) => match Term::list(top.items) {
+                Ok(term) => put_term(term, frames),
+                Err(_) => Err(StepError::OutOfMemory),
+            },
             (Bracket::Brace, Bracket::Square) => Err(StepError::Misplaced),
             (Bracket::Square, Bracket::Brace) => Err(StepError::Misplaced),
         },

@@ -54,8 +54,8 @@ fn put<A: Allocator, B: Allocator>(term: &Term<A>, out: &mut Vec<u8, B>) -> Resu
         Term::Int(n) => write_decimal(*n, out),
         Term::Atom(a) => put_atom(a.text(), out),
         Term::Pid(pid) => write_pid(*pid, out),
-        Term::Tuple(v) => put_enclosed(b'{', v, b'}', out),
-        Term::List(v) => put_enclosed(b'[', v, b']', out),
+        Term::Tuple(v) => put_enclosed(b'{', &**v, b'}', out),
+        Term::List(v) => put_enclosed(b'[', &**v, b']', out),
     }
 }
 

@@ -7,8 +7,7 @@ use Rattle.std.proofs.lemmas.Option.{slice_get-map, slice_get-get_or, slice_get_
 use Rattle.def_term.specs.Names.{Name, Mfa}
 use Rattle.def_term.specs.Tree.{Tree, tuple, none, more}
 use Rattle.std.specs.declared.vec.Vec.{Vec}
-use Rattle.tn_term.proofs.Views.{tree_of_tuple}
-use Rattle.tn_term.specs.declared.term.Term.{Term, Tuple as TupleOf}
+use Rattle.tn_term.specs.declared.term.Term.{Term}
 use Rattle.def_script.specs.Program as program
 use Rattle.def_script.specs.Program.{mfa_of, Command, create, destroy, set_processes, set_function, set_send, set_receive}
 use Rattle.def_script.specs.Exports.{Exports, visible}
@@ -137,10 +136,10 @@ visible_more ks i k m seen new below is so_far named added =
     ∙ sym (ap visible (map_more function_of ks i k below ∙ ap (λ z. map function_of (take i ks) ++ function_of z ∷ []) (sym is)) ∙ visible_then (map function_of (take i ks)) (function_of k))
 
 -- the tuple of two terms
-pub pair_tree : {A : Type 0} (v : Vec (Term A) A) (a b : Term A) (t u : Tree) (first second : List (Term A)) → first ≡ [] → second ≡ first ++ a ∷ [] → v.items ≡ second ++ b ∷ [] → tree_of a ≡ t → tree_of b ≡ u
-    → tree_of (TupleOf v) ≡ tuple (more t (more u none))
-pair_tree v a b t u first second e f k p q =
-    tree_of_tuple v
+pub pair_tree : {A : Type 0} (p : Tree) (v : Vec (Term A) A) (a b : Term A) (t u : Tree) (first second : List (Term A)) → p ≡ tuple (trees_of v.items) → first ≡ [] → second ≡ first ++ a ∷ [] → v.items ≡ second ++ b ∷ [] → tree_of a ≡ t → tree_of b ≡ u
+    → p ≡ tuple (more t (more u none))
+pair_tree whole v a b t u first second made e f k p q =
+    made
     ∙ ap (λ ts. tuple (trees_of ts)) (k ∙ ap (λ xs. xs ++ b ∷ []) (f ∙ ap (λ xs. xs ++ a ∷ []) e))
     ∙ ap (λ x. tuple (more x (more (tree_of b) none))) p
     ∙ ap (λ x. tuple (more t (more x none))) q

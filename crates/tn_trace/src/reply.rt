@@ -25,7 +25,7 @@ pub(crate) fn created_reply<A: Allocator + Copy>(
     let mut elements = Vec::new(alloc);
     elements.push(Term::word(alloc, "session")?)?;
     elements.push(Term::Atom(name.copy_into(alloc)?))?;
-    Ok(Term::Tuple(elements))
+    Ok(Term::tuple(elements)?)
 }
 
 /// The reply, or `badarg` where there is none.

@@ -37,7 +37,7 @@ impl<A: Allocator + Copy> MessageSink<A> for Terms<A> {
     fn keep_reply(&mut self, alloc: A, reply: &Term<A>) -> Result<(), AllocError>
         ensures { IfOk result (λ _. IsOneMore AreTerms (tree_of reply.now) self.old self.new) }
     {
-        let copy = reply.copy_into(alloc)?;
+        let copy = reply.share()?;
         self.terms.push(WrittenTerm::new(alloc, copy)?)?;
         Ok(())
     }

@@ -40,8 +40,12 @@ impl<A: Allocator + Copy, K: MessageSink<A> + Drop> Slot<A, K> {
         let Some(session) = &mut self.session else {
             return Ok(());
         };
+        let event = text.event();
+        if !session.concerns(event) {
+            return Ok(());
+        }
         let mut room = Room::new(alloc);
-        match session.tell(text.event(), &mut room)? {
+        match session.tell(event, &mut room)? {
             None => Ok(()),
             Some(message) => {
                 self.kept

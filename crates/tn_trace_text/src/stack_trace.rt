@@ -93,12 +93,12 @@ pub(crate) fn without_stacks<A: Allocator + Copy>(
         Term::Int(n) => Ok(Term::Int(*n)),
         Term::Atom(a) => Ok(Term::Atom(a.copy_into(alloc)?)),
         Term::Pid(n) => Ok(Term::Pid(*n)),
-        Term::Tuple(v) => Ok(Term::Tuple(each_without_stacks(alloc, v.as_slice())?)),
+        Term::Tuple(v) => Ok(Term::tuple(each_without_stacks(alloc, v.as_slice())?)?),
         Term::List(v) => {
             if is_stack(v.as_slice()) {
-                return Ok(Term::List(Vec::new(alloc)));
+                return Ok(Term::list(Vec::new(alloc))?);
             }
-            Ok(Term::List(each_without_stacks(alloc, v.as_slice())?))
+            Ok(Term::list(each_without_stacks(alloc, v.as_slice())?)?)
         }
     }
 }

@@ -3,7 +3,7 @@ use Rattle.std.proofs.Common.{◌≡◌, ℕ, ◌+◌, List, [], ◌∷◌, ◌+
 use Rattle.std.specs.Prelude.{Box as Boxed}
 use Rattle.std.specs.declared.vec.Vec.{Vec}
 use Rattle.def_term.specs.Names.{Name}
-use Rattle.def_term.specs.Tree.{Tree}
+use Rattle.def_term.specs.Tree.{Tree, tuple, list}
 use Rattle.def_fun.specs.Trees as tree
 use Rattle.def_fun.specs.Trees.{FunExpr, each_expr}
 use Rattle.def_fun.specs.Refusals.{FunRefusal}
@@ -17,9 +17,8 @@ use Rattle.tn_fun.specs.Trees.{fun_expr_seen, fun_exprs_seen}
 use Rattle.tn_fun.proofs.TreeViews.{seen_list, seen_list_onto, seen_tuple, seen_between}
 use Rattle.tn_spec.specs.Names.{position_seen}
 use Rattle.tn_spec.specs.Views.{dialect_of}
-use Rattle.tn_term.specs.declared.term.Term.{Term, Tuple as TupleTerm, List as ListTerm}
-use Rattle.tn_term.specs.Views.{tree_of}
-use Rattle.tn_term.proofs.Views.{tree_of_tuple, tree_of_list}
+use Rattle.tn_term.specs.declared.term.Term.{Term}
+use Rattle.tn_term.specs.Views.{tree_of, trees_of}
 use Rattle.tn_translation.specs.declared.expr.Scope.{Scope}
 use Rattle.tn_translation.specs.declared.fault.FunFault.{FunFault}
 use Rattle.tn_translation.specs.Faults.{RefusedBy, GivesFun}
@@ -70,13 +69,13 @@ module _ {A : Type 0} (s : Scope A) where
 -- ---- patterns
 
 module _ {A : Type 0} (text : List ℕ) (ns : ClauseNames) where
-  pub list_pattern : (e : Expr A) (at : ℕ) (es : Vec (Expr A) A) (v : Vec (Term A) A) → e ≡ ListOf at es → pattern_terms ns (fun_exprs_seen text es.items) ≡ Ok (term_row_seen v) → pattern_term ns (fun_expr_seen text e) ≡ Ok (tree_of (ListTerm v))
-  list_pattern e at es v is h =
-      ap (λ z. pattern_term ns (fun_expr_seen text z)) is ∙ ap (pattern_term ns) (seen_list text at es) ∙ then_value (pattern_terms ns (fun_exprs_seen text es.items)) _ (term_row_seen v) h ∙ ap Ok (sym (tree_of_list v))
+  pub list_pattern : (e : Expr A) (at : ℕ) (es : Vec (Expr A) A) (v : Vec (Term A) A) (t : Tree) → e ≡ ListOf at es → pattern_terms ns (fun_exprs_seen text es.items) ≡ Ok (term_row_seen v) → t ≡ list (trees_of v.items) → pattern_term ns (fun_expr_seen text e) ≡ Ok t
+  list_pattern e at es v t is h made =
+      ap (λ z. pattern_term ns (fun_expr_seen text z)) is ∙ ap (pattern_term ns) (seen_list text at es) ∙ then_value (pattern_terms ns (fun_exprs_seen text es.items)) _ (term_row_seen v) h ∙ ap Ok (sym made)
 
-  pub tuple_pattern : (e : Expr A) (at : ℕ) (es : Vec (Expr A) A) (v : Vec (Term A) A) → e ≡ Tuple at es → pattern_terms ns (fun_exprs_seen text es.items) ≡ Ok (term_row_seen v) → pattern_term ns (fun_expr_seen text e) ≡ Ok (tree_of (TupleTerm v))
-  tuple_pattern e at es v is h =
-      ap (λ z. pattern_term ns (fun_expr_seen text z)) is ∙ ap (pattern_term ns) (seen_tuple text at es) ∙ then_value (pattern_terms ns (fun_exprs_seen text es.items)) _ (term_row_seen v) h ∙ ap Ok (sym (tree_of_tuple v))
+  pub tuple_pattern : (e : Expr A) (at : ℕ) (es : Vec (Expr A) A) (v : Vec (Term A) A) (t : Tree) → e ≡ Tuple at es → pattern_terms ns (fun_exprs_seen text es.items) ≡ Ok (term_row_seen v) → t ≡ tuple (trees_of v.items) → pattern_term ns (fun_expr_seen text e) ≡ Ok t
+  tuple_pattern e at es v t is h made =
+      ap (λ z. pattern_term ns (fun_expr_seen text z)) is ∙ ap (pattern_term ns) (seen_tuple text at es) ∙ then_value (pattern_terms ns (fun_exprs_seen text es.items)) _ (term_row_seen v) h ∙ ap Ok (sym made)
 
   pub onto_pattern_seen : (e : Expr A) (at : ℕ) (es : Vec (Expr A) A) (t : Boxed (Expr A) A) (u : Expr A) → e ≡ ListOnto at es t → u ≡ box_value t
       → pattern_term ns (fun_expr_seen text e) ≡ pattern_term ns (tree.list_onto at (fun_exprs_seen text es.items) (fun_expr_seen text u))

@@ -12,9 +12,8 @@ use Rattle.tn_fun.specs.Clauses.{guard_seen, guards_seen}
 use Rattle.tn_fun.specs.Trees.{fun_row_seen}
 use Rattle.tn_fun.specs.declared.tree.Expr.{Expr}
 use Rattle.tn_spec.specs.Views.{dialect_of}
-use Rattle.tn_term.specs.declared.term.Term.{Term, List as ListOf}
+use Rattle.tn_term.specs.declared.term.Term.{Term}
 use Rattle.tn_term.specs.Views.{tree_of}
-use Rattle.tn_term.proofs.Views.{tree_of_list}
 use Rattle.tn_translation.specs.declared.expr.Scope.{Scope}
 use Rattle.tn_translation.specs.declared.alternatives.SharedParts.{SharedParts}
 use Rattle.tn_translation.specs.Faults.{RefusedBy}
@@ -66,8 +65,8 @@ first_and_others text [] = refl
 first_and_others text (g ∷ gs) = refl
 
 -- the head and the body, once they are translated
-pub shared_parts : {A : Type 0} (d : Dialect) (k : FunClause) (p : SharedParts A) (v : Vec (Term A) A) → p.at ≡ k.at → head_term k.head ≡ Ok (tree_of p.head) → p.body ≡ ListOf v → part_terms d in_body (names_of k.head) k.body ≡ Ok (term_row_seen v) → AreSharedParts d k p
-shared_parts d k p v place head is body = record { place = place; head = head; body = term_row_seen v; body_is = ap tree_of is ∙ tree_of_list v; body_terms = body }
+pub shared_parts : {A : Type 0} (d : Dialect) (k : FunClause) (p : SharedParts A) (v : Vec (Term A) A) → p.at ≡ k.at → head_term k.head ≡ Ok (tree_of p.head) → tree_of p.body ≡ list_term (term_row_seen v) → part_terms d in_body (names_of k.head) k.body ≡ Ok (term_row_seen v) → AreSharedParts d k p
+shared_parts d k p v place head is body = record { place = place; head = head; body = term_row_seen v; body_is = is; body_terms = body }
 
 -- ---- the guards of a vector, one after the other
 
@@ -136,15 +135,15 @@ module _ {A : Type 0} (text : List ℕ) (d : Dialect) (k : FunClause) (gs : List
     pub named_body_fails : (o : Option FunRefusal) → RefusedBy o (part_terms d in_body ns k.body) → RefusedBy o (with_alternatives d k ts (alternatives_of (guards_seen text gs)))
     named_body_fails o h = clause_body_fails text d k gs ts o (tree_of head) cs head_is (conditions_there ∙ conditions) (refused_same o _ _ body_there h)
 
-    module _ (at : ℕ) (place : at ≡ k.at) (v : Vec (Term A) A) (body : part_terms d in_body ns k.body ≡ Ok (term_row_seen v)) where
+    module _ (at : ℕ) (place : at ≡ k.at) (u : Term A) (v : Vec (Term A) A) (made : tree_of u ≡ list_term (term_row_seen v)) (body : part_terms d in_body ns k.body ≡ Ok (term_row_seen v)) where
       abbrev pub the_parts : SharedParts A
-      the_parts = record { at = at; head = head; body = ListOf v }
+      the_parts = record { at = at; head = head; body = u }
 
       pub named_parts : AreSharedParts d k the_parts
-      named_parts = shared_parts d k the_parts v place head_is refl (body_there ∙ body)
+      named_parts = shared_parts d k the_parts v place head_is made (body_there ∙ body)
 
-      pub named_too_long : (o : Option FunRefusal) → RefusedBy o (within_length at (ts ++ triple (tree_of head) (list_term cs) (tree_of (ListOf v)) ∷ [])) → RefusedBy o (with_alternatives d k ts (alternatives_of (guards_seen text gs)))
+      pub named_too_long : (o : Option FunRefusal) → RefusedBy o (within_length at (ts ++ triple (tree_of head) (list_term cs) (tree_of u) ∷ [])) → RefusedBy o (with_alternatives d k ts (alternatives_of (guards_seen text gs)))
       named_too_long o h = clause_too_long text d k gs ts the_parts named_parts cs (conditions_there ∙ conditions) o h
 
-      pub named_goes_on : (us : List Tree) → within_length at (ts ++ triple (tree_of head) (list_term cs) (tree_of (ListOf v)) ∷ []) ≡ Ok us → with_alternatives d k ts (alternatives_of (guards_seen text gs)) ≡ with_alternatives d k us (guards_seen text (drop 1 gs))
+      pub named_goes_on : (us : List Tree) → within_length at (ts ++ triple (tree_of head) (list_term cs) (tree_of u) ∷ []) ≡ Ok us → with_alternatives d k ts (alternatives_of (guards_seen text gs)) ≡ with_alternatives d k us (guards_seen text (drop 1 gs))
       named_goes_on us h = clause_goes_on text d k gs ts the_parts named_parts cs (conditions_there ∙ conditions) us h

@@ -2,6 +2,8 @@
 use Rattle.std.proofs.Common.{◌≡◌, ℕ, ◌≤◌, ◌<◌, List, [], ◌∷◌, ◌++◌, length, map, true, false, nat_le, min, cond, Option, Some, Ok, Err, refl, ap, ap₂, sym, ◌∙◌, arith}
 use Rattle.std.proofs.lemmas.Bool.Decides.{nat_tests}
 use Rattle.std.specs.declared.vec.Vec.{Vec}
+use Rattle.std.specs.Arc.{arc_value}
+use Rattle.std.specs.declared.sync.Arc.{Arc}
 use Rattle.std.proofs.lemmas.List.{length-map, map-append}
 use Rattle.def_term.specs.Tree.{Tree, tuple, list, of_elements, more, depth}
 use Rattle.def_text.specs.Limits.{LIST_LENGTH}
@@ -10,9 +12,9 @@ use Rattle.def_fun.specs.Operators.{FunOperator}
 use Rattle.def_fun.specs.Refusals.{FunRefusal, too_large_at, too_deep_at, minus_alone}
 use Rattle.def_fun.specs.Constants.{Computation, not_computed}
 use Rattle.def_fun.specs.Translation.{TranslatedExpr, elements_of_list, onto_tail, within_depth, name_tuple, operator_translated, prefix_translated}
-use Rattle.tn_term.specs.declared.term.Term.{Term, Atom, Tuple, List as ListOf}
-use Rattle.tn_term.specs.Views.{tree_of}
-use Rattle.tn_term.proofs.Views.{tree_of_atom, tree_of_tuple, tree_of_list, elements-of_elements}
+use Rattle.tn_term.specs.declared.term.Term.{Term, Atom, List as ListOf}
+use Rattle.tn_term.specs.Views.{tree_of, trees_of}
+use Rattle.tn_term.proofs.Views.{tree_of_atom, tree_of_list, elements-of_elements}
 use Rattle.tn_translation.specs.declared.fault.FunFault.{FunFault}
 use Rattle.tn_translation.specs.declared.fault.FunFault.TheVariants as faults
 use Rattle.tn_translation.specs.Constants.{is_minus_alone}
@@ -33,12 +35,12 @@ row_more v w t h = ap (map tree_of) h ∙ map-append tree_of v.items (t ∷ [])
 pub row_joined : {A : Type 0} (v w u : Vec (Term A) A) → u.items ≡ v.items ++ w.items → term_row_seen u ≡ term_row_seen v ++ term_row_seen w
 row_joined v w u h = ap (map tree_of) h ∙ map-append tree_of v.items w.items
 
-pub list_elements : {A : Type 0} (v : Vec (Term A) A) → elements_of_list (tree_of (ListOf v)) ≡ term_row_seen v
-list_elements v = ap elements_of_list (tree_of_list v) ∙ elements-of_elements (map tree_of v.items)
+pub list_elements : {A : Type 0} (v : Arc (Vec (Term A) A) A) → elements_of_list (tree_of (ListOf v)) ≡ term_row_seen (arc_value v)
+list_elements v = ap elements_of_list (tree_of_list v) ∙ elements-of_elements (map tree_of (arc_value v).items)
 
 -- a name before terms
-pub named_tuple : {A : Type 0} (s : List ℕ) (v w : Vec (Term A) A) → w.items ≡ Atom s ∷ v.items → tree_of (Tuple w) ≡ name_tuple s (term_row_seen v)
-named_tuple {A} s v w h = tree_of_tuple w ∙ ap (λ l. tuple (of_elements (map tree_of l))) h ∙ ap (λ t. tuple (more t (of_elements (term_row_seen v)))) (tree_of_atom A s)
+pub named_tuple : {A : Type 0} (s : List ℕ) (v w : Vec (Term A) A) (t : Tree) → w.items ≡ Atom s ∷ v.items → t ≡ tuple (trees_of w.items) → t ≡ name_tuple s (term_row_seen v)
+named_tuple {A} s v w t h made = made ∙ ap (λ l. tuple (of_elements (map tree_of l))) h ∙ ap (λ t. tuple (more t (of_elements (term_row_seen v)))) (tree_of_atom A s)
 
 -- ---- lists with a tail
 
@@ -56,11 +58,11 @@ long_list at ts t v h long =
     ap (λ us. cond (nat_le (length us) LIST_LENGTH) (Ok (list (of_elements us))) (Err (too_large_at at))) (sym h)
     ∙ ap (λ b. cond b (Ok (list (of_elements (term_row_seen v)))) (Err (too_large_at at))) (more_than (length (term_row_seen v)) LIST_LENGTH (let e = row_length v in omega (arith, e, long)))
 
-pub short_list : {A : Type 0} (at : ℕ) (ts : List Tree) (t : Tree) (v : Vec (Term A) A) → term_row_seen v ≡ ts ++ elements_of_list t → length v.items ≤ 4096 → onto_tail at ts t ≡ Ok (tree_of (ListOf v))
-short_list at ts t v h short =
+pub short_list : {A : Type 0} (at : ℕ) (ts : List Tree) (t : Tree) (v : Vec (Term A) A) (u : Tree) → term_row_seen v ≡ ts ++ elements_of_list t → length v.items ≤ 4096 → u ≡ list (trees_of v.items) → onto_tail at ts t ≡ Ok u
+short_list at ts t v u h short made =
     ap (λ us. cond (nat_le (length us) LIST_LENGTH) (Ok (list (of_elements us))) (Err (too_large_at at))) (sym h)
     ∙ ap (λ b. cond b (Ok (list (of_elements (term_row_seen v)))) (Err (too_large_at at))) (at_most (length (term_row_seen v)) LIST_LENGTH (let e = row_length v in omega (arith, e, short)))
-    ∙ ap Ok (sym (tree_of_list v))
+    ∙ ap Ok (sym made)
 
 -- ---- depths
 

@@ -40,9 +40,9 @@ fn with_conditions<A: Allocator + Copy>(
     ensures { (text : List ℕ) → GivesFun clauses_so_far text result (within_length shared.now.at (clauses_so_far spec
         ++ triple (tree_of shared.now.head) (list_term (term_row_seen conditions)) (tree_of shared.now.body) ∷ [])) }
 {
-    let head = shared.head.copy_into(alloc)?;
-    let body = shared.body.copy_into(alloc)?;
-    let clause = triple_of(alloc, head, Term::List(conditions), body)?;
+    let head = shared.head.share()?;
+    let body = shared.body.share()?;
+    let clause = triple_of(alloc, head, Term::list(conditions)?, body)?;
     spec.with_clause(shared.at, clause)
 }
 
@@ -110,7 +110,7 @@ pub fn with_clause<A: Allocator + Copy>(
         dialect,
         part: Position::Body,
     };
-    let body = Term::List(part_terms(alloc, &in_body, &clause.body)?);
+    let body = Term::list(part_terms(alloc, &in_body, &clause.body)?)?;
     let shared = SharedParts {
         at: clause.at,
         head: term,

@@ -55,7 +55,7 @@ pub fn codes_term<A: Allocator + Copy>(alloc: A, codes: &[u8]) -> Result<Term<A>
     for code in codes {
         items.push(Term::Int(i64::from(*code)))?;
     }
-    Ok(Term::List(items))
+    Ok(Term::list(items)?)
 }
 
 /// The codes of strings beside each other.

@@ -49,7 +49,7 @@ fn atom_translated<A: Allocator + Copy>(alloc: A, name: Atom<A>) -> Result<ExprT
         let mut fields = Vec::with_capacity(alloc, 2)?;
         fields.push(Term::word(alloc, "const")?)?;
         fields.push(Term::Atom(name))?;
-        Term::Tuple(fields)
+        Term::tuple(fields)?
     } else {
         Term::Atom(name)
     };
@@ -57,34 +57,40 @@ fn atom_translated<A: Allocator + Copy>(alloc: A, name: Atom<A>) -> Result<ExprT
 }
 
 /// The list of constants.
-fn constant_list<A: Allocator>(values: Option<Vec<Term<A>, A>>) -> Option<Term<A>>
-    ensures { option_map tree_of result ≡ spec.constant_of spec.list_term (option_map term_row_seen values) }
+fn constant_list<A: Allocator + Copy>(
+    values: Option<Vec<Term<A>, A>>,
+) -> Result<Option<Term<A>>, AllocError>
+    ensures { IfOk result (λ o. option_map tree_of o
+        ≡ spec.constant_of spec.list_term (option_map term_row_seen values)) }
 {
     match values {
-        Some(values) => Some(Term::List(values)),
-        None => None,
+        Some(values) => Ok(Some(Term::list(values)?)),
+        None => Ok(None),
     }
 }
 
 /// The tuple of constants.
-fn constant_tuple<A: Allocator>(values: Option<Vec<Term<A>, A>>) -> Option<Term<A>>
-    ensures { option_map tree_of result
-        ≡ spec.constant_of (λ vs. term.tuple (term.of_elements vs)) (option_map term_row_seen values) }
+fn constant_tuple<A: Allocator + Copy>(
+    values: Option<Vec<Term<A>, A>>,
+) -> Result<Option<Term<A>>, AllocError>
+    ensures { IfOk result (λ o. option_map tree_of o
+        ≡ spec.constant_of (λ vs. term.tuple (term.of_elements vs)) (option_map term_row_seen values)) }
 {
     match values {
-        Some(values) => Some(Term::Tuple(values)),
-        None => None,
+        Some(values) => Ok(Some(Term::tuple(values)?)),
+        None => Ok(None),
     }
 }
 
 /// A list of elements.
-fn list_translated<A: Allocator>(elements: Elements<A>) -> ExprTerm<A>
-    ensures { (xs : List TranslatedExpr) → AreElements elements xs → translated_seen result ≡ translated_list xs }
+fn list_translated<A: Allocator + Copy>(elements: Elements<A>) -> Result<ExprTerm<A>, AllocError>
+    ensures { IfOk result (λ x. (xs : List TranslatedExpr) → AreElements elements xs
+        → translated_seen x ≡ translated_list xs) }
 {
-    ExprTerm {
-        term: Term::List(elements.terms),
-        constant: constant_list(elements.constants),
-    }
+    Ok(ExprTerm {
+        term: Term::list(elements.terms)?,
+        constant: constant_list(elements.constants)?,
+    })
 }
 
 /// A tuple of elements: a one-tuple of the tuple.
@@ -96,10 +102,10 @@ fn tuple_translated<A: Allocator + Copy>(
         → translated_seen x ≡ translated_tuple xs) }
 {
     let mut only = Vec::with_capacity(alloc, 1)?;
-    only.push(Term::Tuple(elements.terms))?;
+    only.push(Term::tuple(elements.terms)?)?;
     Ok(ExprTerm {
-        term: Term::Tuple(only),
-        constant: constant_tuple(elements.constants),
+        term: Term::tuple(only)?,
+        constant: constant_tuple(elements.constants)?,
     })
 }
 
@@ -271,7 +277,7 @@ pub fn expr_translated<A: Allocator + Copy>(
         }
         Expr::Parens(_, inner) => expr_translated(alloc, scope, inner),
         Expr::Call(name, items) => call_translated(alloc, scope, *name, items),
-        Expr::List(_, items) => Ok(list_translated(exprs_translated(alloc, scope, items)?)),
+        Expr::List(_, items) => Ok(list_translated(exprs_translated(alloc, scope, items)?)?),
         Expr::ListOnto(_, items, tail) => {
             let elements = exprs_translated(alloc, scope, items)?;
             let at = proper_tail(tail)?;

@@ -56,7 +56,7 @@ fn operator_name(operator: Operator) -> &'static str
 }
 
 /// The tuple of a name and terms.
-pub fn name_tuple<A: Allocator>(
+pub fn name_tuple<A: Allocator + Copy>(
     name: Atom<A>,
     terms: Vec<Term<A>, A>,
 ) -> Result<Term<A>, AllocError>
@@ -64,7 +64,7 @@ pub fn name_tuple<A: Allocator>(
 {
     let mut fields = terms;
     fields.insert(0, Term::Atom(name))?;
-    Ok(Term::Tuple(fields))
+    Ok(Term::tuple(fields)?)
 }
 
 /// An integer that is computed.

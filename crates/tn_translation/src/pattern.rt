@@ -159,14 +159,14 @@ pub fn pattern_term<A: Allocator + Copy>(
         Expr::Strings(first, others) => Ok(strings_term(alloc, bytes, *first, others)?),
         Expr::Parens(_, inner) => pattern_term(alloc, bytes, names, inner),
         Expr::Call(name, _) => Err(FunFault::MinusAlone { at: name.from }),
-        Expr::List(_, items) => Ok(Term::List(pattern_terms(alloc, bytes, names, items)?)),
+        Expr::List(_, items) => Ok(Term::list(pattern_terms(alloc, bytes, names, items)?)?),
         Expr::ListOnto(_, items, tail) => {
             let terms = pattern_terms(alloc, bytes, names, items)?;
             let at = proper_tail(tail)?;
             let rest = pattern_term(alloc, bytes, names, tail)?;
             onto_tail(alloc, at, terms, rest)
         }
-        Expr::Tuple(_, items) => Ok(Term::Tuple(pattern_terms(alloc, bytes, names, items)?)),
+        Expr::Tuple(_, items) => Ok(Term::tuple(pattern_terms(alloc, bytes, names, items)?)?),
         Expr::Before(at, _, inner) => negative_pattern(*at, inner),
         Expr::Between(at, _, _, _) => Err(FunFault::MinusAlone { at: *at }),
     }

@@ -42,7 +42,7 @@ fn clauses_of<A: Allocator + Copy>(
 }
 
 /// The specification of these clauses.
-fn whole<A: Allocator>(spec: SpecSoFar<A>) -> Result<FunSpec<A>, AllocError>
+fn whole<A: Allocator + Copy>(spec: SpecSoFar<A>) -> Result<FunSpec<A>, AllocError>
     ensures term { IfOk result (λ s. tree_of s.term ≡ list_term (clauses_so_far spec)) }
     ensures text { IfOk result (λ s. s.text.items ≡ w (list_term (clauses_so_far spec))) }
 {
@@ -50,7 +50,7 @@ fn whole<A: Allocator>(spec: SpecSoFar<A>) -> Result<FunSpec<A>, AllocError>
     let mut text = text;
     text.push(b']')?;
     Ok(FunSpec {
-        term: Term::List(clauses),
+        term: Term::list(clauses)?,
         text,
     })
 }

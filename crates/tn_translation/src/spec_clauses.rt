@@ -61,7 +61,7 @@ impl<A: Allocator + Copy> SpecSoFar<A> {
 }
 
 /// The tuple of three terms.
-pub fn triple_of<A: Allocator>(
+pub fn triple_of<A: Allocator + Copy>(
     alloc: A,
     first: Term<A>,
     second: Term<A>,
@@ -73,5 +73,5 @@ pub fn triple_of<A: Allocator>(
     fields.push(first)?;
     fields.push(second)?;
     fields.push(third)?;
-    Ok(Term::Tuple(fields))
+    Ok(Term::tuple(fields)?)
 }

@@ -12,7 +12,7 @@ ghost use Rattle.tn_translation.specs.Values.{term_row_seen};
 use crate::fault::FunFault;
 use std::alloc::{AllocError, Allocator};
 use tn_fun::{Expr, first_byte};
-use tn_term::Term;
+use tn_term::{Term, items_of};
 
 /// The most elements of a list with those of its tail.
 const MAX_LIST: usize = 4096;
@@ -42,20 +42,20 @@ pub fn proper_tail<A: Allocator>(tail: &Expr<A>) -> Result<usize, FunFault>
 }
 
 /// The elements of a list; another term has none.
-fn elements_of<A: Allocator>(alloc: A, term: Term<A>) -> Vec<Term<A>, A>
-    ensures { term_row_seen result ≡ elements_of_list (tree_of term) }
+fn elements_of<A: Allocator + Copy>(alloc: A, term: Term<A>) -> Result<Vec<Term<A>, A>, AllocError>
+    ensures { IfOk result (λ v. term_row_seen v ≡ elements_of_list (tree_of term)) }
 {
     match term {
-        Term::List(items) => items,
-        Term::Int(_) => Vec::new(alloc),
-        Term::Atom(_) => Vec::new(alloc),
-        Term::Pid(_) => Vec::new(alloc),
-        Term::Tuple(_) => Vec::new(alloc),
+        Term::List(items) => Ok(items_of(items)?),
+        Term::Int(_) => Ok(Vec::new(alloc)),
+        Term::Atom(_) => Ok(Vec::new(alloc)),
+        Term::Pid(_) => Ok(Vec::new(alloc)),
+        Term::Tuple(_) => Ok(Vec::new(alloc)),
     }
 }
 
 /// These terms and the elements of their tail.
-fn with_tail<A: Allocator>(
+fn with_tail<A: Allocator + Copy>(
     alloc: A,
     terms: Vec<Term<A>, A>,
     tail: Term<A>,
@@ -63,13 +63,13 @@ fn with_tail<A: Allocator>(
     ensures { IfOk result (λ v. term_row_seen v ≡ term_row_seen terms ++ elements_of_list (tree_of tail)) }
 {
     let mut terms = terms;
-    let mut more = elements_of(alloc, tail);
+    let mut more = elements_of(alloc, tail)?;
     terms.append(&mut more)?;
     Ok(terms)
 }
 
 /// The list of these terms and the elements of their tail.
-pub fn joined_list<A: Allocator>(
+pub fn joined_list<A: Allocator + Copy>(
     alloc: A,
     terms: Vec<Term<A>, A>,
     tail: Term<A>,
@@ -77,11 +77,11 @@ pub fn joined_list<A: Allocator>(
     ensures { IfOk result (λ t. tree_of t
         ≡ list (of_elements (term_row_seen terms ++ elements_of_list (tree_of tail)))) }
 {
-    Ok(Term::List(with_tail(alloc, terms, tail)?))
+    Ok(Term::list(with_tail(alloc, terms, tail)?)?)
 }
 
 /// The list of these terms and the elements of their tail, where it has no more than 4,096 elements.
-pub fn onto_tail<A: Allocator>(
+pub fn onto_tail<A: Allocator + Copy>(
     alloc: A,
     at: usize,
     terms: Vec<Term<A>, A>,
@@ -93,7 +93,7 @@ pub fn onto_tail<A: Allocator>(
     if items.len() > MAX_LIST {
         return Err(FunFault::TooLarge { at });
     }
-    Ok(Term::List(items))
+    Ok(Term::list(items)?)
 }
 
 /// The term, where it isn't deeper.

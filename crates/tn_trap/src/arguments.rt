@@ -38,7 +38,7 @@ fn is_flag_list<A: Allocator>(term: &Term<A>) -> bool
     ensures { result ≡ is_some (flags_listed (tree_of term.now)) }
 {
     match term {
-        Term::List(terms) => are_flags(terms),
+        Term::List(terms) => are_flags(&**terms),
         Term::Int(_) => false,
         Term::Atom(_) => false,
         Term::Pid(_) => false,

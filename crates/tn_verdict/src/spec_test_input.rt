@@ -21,7 +21,7 @@ use tn_action::Context;
 use tn_flags::{FlagTable, Flags};
 use tn_guard::ListView;
 use tn_spec::{Dialect, Spec, SpecFault, clause, spec_of};
-use tn_term::{Alive, Atom, Mfa, PROCESSES, Term};
+use tn_term::{Alive, Atom, Mfa, PROCESSES, Term, items_of};
 use tn_text::{TextFault, read_term};
 
 /// A specification and what it is held against. Each text is one term, without a full stop.
@@ -89,7 +89,10 @@ fn list_of<A: Allocator + Copy>(alloc: A, text: &[u8]) -> Result<Vec<Term<A>, A>
     ensures { MatchResult result (λ v. IsListRead text.now v) (λ fault. IsListFault text.now fault) }
 {
     match read_term(alloc, text) {
-        Ok(Term::List(elements)) => Ok(elements),
+        Ok(Term::List(elements)) => match items_of(elements) {
+            Ok(terms) => Ok(terms),
+            Err(_) => Err(SpecTestFault::OutOfMemory),
+        },
         Ok(_) => Err(SpecTestFault::NoList),
         Err(TextFault::OutOfMemory) => Err(SpecTestFault::OutOfMemory),
         Err(fault) => Err(SpecTestFault::List(fault)),
@@ -158,7 +161,7 @@ fn mfa_of<A: Allocator + Copy>(alloc: A, term: &Term<A>) -> Result<Option<Mfa<A>
     ensures { IfOk result (λ m. IsMfaOf (tree_of term.now) m) }
 {
     match term {
-        Term::Tuple(fields) => mfa_in(alloc, fields),
+        Term::Tuple(fields) => mfa_in(alloc, &**fields),
         _ => Ok(None),
     }
 }
@@ -202,6 +205,7 @@ fn stop<A: Allocator + Copy>(
     let Term::List(elements) = term else {
         return Ok(None);
     };
+    let elements = &**elements;
     for i in 0..elements.len() {
         match clause(alloc, &elements[i], dialect) {
             Ok(_) => {}

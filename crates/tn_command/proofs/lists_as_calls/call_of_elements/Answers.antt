@@ -1,6 +1,7 @@
 use Rattle.std.proofs.Common.{◌∙◌, ◌-◌, ◌<◌, length, refl, ap, arith, inl, inr}
 use Rattle.def_term.specs.Tree.{int, pid, tuple, list}
 use Rattle.tn_term.specs.Views.{tree_of, trees_of}
+use Rattle.std.specs.Arc.{arc_value}
 use Rattle.tn_term.proofs.Views.{tree_of_int, tree_of_pid, tree_of_list, tree_of_atom, tree_of_tuple}
 use Rattle.tn_spec.proofs.Tuples.{further_counted}
 use Rattle.tn_command.proofs.SpecNoteTerms.{of_atom, of_other}
@@ -25,8 +26,8 @@ returns-in-Int g c =
       | inr q ↦ elim q [
         | inl p ↦ of_other xs x some c.index.ensures (pid p.0) (ap tree_of p.1 ∙ tree_of_pid _ p.0) refl
         | inr r ↦ elim r [
-          | inl p ↦ of_other xs x some c.index.ensures (tuple (trees_of p.0.items)) (ap tree_of p.1 ∙ tree_of_tuple p.0) refl
-          | inr p ↦ of_other xs x some c.index.ensures (list (trees_of p.0.items)) (ap tree_of p.1 ∙ tree_of_list p.0) refl
+          | inl p ↦ of_other xs x some c.index.ensures (tuple (trees_of (arc_value p.0).items)) (ap tree_of p.1 ∙ tree_of_tuple p.0) refl
+          | inr p ↦ of_other xs x some c.index.ensures (list (trees_of (arc_value p.0).items)) (ap tree_of p.1 ∙ tree_of_list p.0) refl
         ]
       ]
     ]

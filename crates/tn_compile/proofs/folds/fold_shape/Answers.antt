@@ -9,7 +9,7 @@ use Rattle.tn_compile.proofs.FoldedParts.{shape-constant, shape-other}
 use Rattle.tn_compile.proofs.folds.fold_shape.Goals as goal
 
 pub returns-then-are_constants : goal.returns-then-are_constants
-returns-then-are_constants g c = expr_seen_constant c.term_of.result ∙ ap ex.constant c.term_of.ensures ∙ shape-constant c.args.kind (exprs_seen c.args.exprs.items) _ c.in_ok-terms.ensures
+returns-then-are_constants g c = expr_seen_constant c.in_ok-term.term ∙ ap ex.constant c.in_ok-term.ensures ∙ shape-constant c.args.kind (exprs_seen c.args.exprs.items) _ c.in_ok-terms.ensures
 
 pub returns-in-Tuple : goal.returns-in-Tuple
 returns-in-Tuple g c =

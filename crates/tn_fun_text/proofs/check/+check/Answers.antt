@@ -3,6 +3,8 @@ use Rattle.std.proofs.lemmas.Result.{err_from_is_err_and}
 use Rattle.std.specs.Option.{option_or}
 use Rattle.def_fun.specs.FunTexts.{expr_of_term, exprs_of_terms}
 use Rattle.tn_term.specs.Views.{tree_of, trees_of}
+use Rattle.std.specs.Arc.{arc_value}
+use Rattle.tn_term.proofs.Elements.{tree_is_tuple, tree_is_list}
 use Rattle.tn_term.proofs.Views.{tree_of_int, tree_of_atom, tree_of_pid, tree_of_tuple, tree_of_list}
 use Rattle.tn_spec.specs.Names.{position_seen}
 use Rattle.tn_spec.specs.Views.{dialect_of}
@@ -50,13 +52,13 @@ pub check_expr-returns-in-List : goal.check_expr-returns-in-List
 check_expr-returns-in-List g t c =
     let d = dialect_of c.args.scope.dialect in
     let part = position_seen c.args.scope.part in
-    subst (λ u. SaysReason (no_fun_reason (expr_of_term d part u)) c.check_list.result) (sym (ap tree_of c.in-List.is ∙ tree_of_list c.in-List.terms)) c.check_list.ensures
+    subst (λ u. SaysReason (no_fun_reason (expr_of_term d part u)) c.check_list.result) (sym (tree_is_list _ _ _ c.in-List.is c.deref.ensures)) c.check_list.ensures
 
 pub check_expr-returns-in-Tuple : goal.check_expr-returns-in-Tuple
 check_expr-returns-in-Tuple g t c =
     let d = dialect_of c.args.scope.dialect in
     let part = position_seen c.args.scope.part in
-    subst (λ u. SaysReason (no_fun_reason (expr_of_term d part u)) c.check_tuple.result) (sym (ap tree_of c.in-Tuple.is ∙ tree_of_tuple c.in-Tuple.terms)) c.check_tuple.ensures
+    subst (λ u. SaysReason (no_fun_reason (expr_of_term d part u)) c.check_tuple.result) (sym (tree_is_tuple _ _ _ c.in-Tuple.is c.deref-in-Tuple.ensures)) c.check_tuple.ensures
 
 pub check_list-returns-then-is_text : goal.check_list-returns-then-is_text
 check_list-returns-then-is_text g t c =
@@ -76,13 +78,13 @@ check_tuple-returns-then-is_empty g t c =
 pub check_tuple-returns-then-len-eq1 : goal.check_tuple-returns-then-len-eq1
 check_tuple-returns-then-len-eq1 g t c =
     let stored = c.args.terms.now.ok.0 in
-    nested_says (dialect_of c.args.scope.dialect) (position_seen c.args.scope.part) c.args.terms.now.items c.in-Tuple.inner.items c.index.result.now c.check_from.result (omega arith) c.index.ensures (ap tree_of c.in-Tuple.is ∙ tree_of_tuple c.in-Tuple.inner) c.check_from.ensures
+    nested_says (dialect_of c.args.scope.dialect) (position_seen c.args.scope.part) c.args.terms.now.items c.deref.result.now.items c.index.result.now c.check_from.result (omega arith) c.index.ensures (tree_is_tuple _ _ _ c.in-Tuple.is c.deref.ensures) c.check_from.ensures
 
 pub check_tuple-returns-else-len-eq1 : goal.check_tuple-returns-else-len-eq1
 check_tuple-returns-else-len-eq1 g t c =
     let stored = c.args.terms.now.ok.0 in
     let some : length c.args.terms.now.items ≢ 0 = not_empty c.is_empty.result _ (length c.args.terms.now.items) c.is_empty.ensures c.if-is_empty.false c.args.terms.now.ok.0 in
-    crowd_is_none (dialect_of c.args.scope.dialect) (position_seen c.args.scope.part) c.args.terms.now.items c.in-Tuple.inner.items c.index.result.now _ (omega arith) c.index.ensures (ap tree_of c.in-Tuple.is ∙ tree_of_tuple c.in-Tuple.inner) (omega arith)
+    crowd_is_none (dialect_of c.args.scope.dialect) (position_seen c.args.scope.part) c.args.terms.now.items (arc_value c.in-Tuple.inner).items c.index.result.now _ (omega arith) c.index.ensures (ap tree_of c.in-Tuple.is ∙ tree_of_tuple c.in-Tuple.inner) (omega arith)
 
 pub check_tuple-returns-in-Atom : goal.check_tuple-returns-in-Atom
 check_tuple-returns-in-Atom g t c =
@@ -102,6 +104,6 @@ check_tuple-returns-in-Int g t c =
       | inl p ↦ int_is_none d part xs x p.0 _ (omega arith) c.index.ensures (ap tree_of p.1 ∙ tree_of_int _ p.0) (omega arith)
       | inr q ↦ elim q [
         | inl p ↦ pid_is_none d part xs x p.0 _ (omega arith) c.index.ensures (ap tree_of p.1 ∙ tree_of_pid _ p.0) (omega arith)
-        | inr p ↦ list_is_none d part xs x (trees_of p.0.items) _ (omega arith) c.index.ensures (ap tree_of p.1 ∙ tree_of_list p.0) (omega arith)
+        | inr p ↦ list_is_none d part xs x (trees_of (arc_value p.0).items) _ (omega arith) c.index.ensures (ap tree_of p.1 ∙ tree_of_list p.0) (omega arith)
       ]
     ]

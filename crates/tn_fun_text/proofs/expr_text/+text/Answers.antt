@@ -4,6 +4,8 @@ use Rattle.def_fun.specs.Operators.{operator_binding, level_of}
 use Rattle.def_fun.specs.FunTexts.{prints_between, prints_before, prints_call, prints_nothing, printed_call}
 use Rattle.tn_fun.specs.Tokens.{operator_seen}
 use Rattle.tn_term.specs.Views.{tree_of, trees_of}
+use Rattle.std.specs.Arc.{arc_value}
+use Rattle.tn_term.proofs.Elements.{tree_is_tuple, tree_is_list}
 use Rattle.tn_term.proofs.Views.{tree_of_int, tree_of_atom, tree_of_pid, tree_of_tuple, tree_of_list}
 use Rattle.tn_text.proofs.Growth.{written_as}
 use Rattle.tn_spec.specs.Names.{position_seen}
@@ -40,13 +42,13 @@ pub put_expr-returns-in-List : goal.put_expr-returns-in-List
 put_expr-returns-in-List g t c =
     let d = dialect_of c.args.scope.dialect in
     let part = position_seen c.args.scope.part in
-    written_as c.put_list.result c.args.out.now.items c.put_list.new.out.items (ap (fun_expr_text d part c.args.level c.args.keeps) (ap tree_of c.in-List.is ∙ tree_of_list c.in-List.terms)) c.put_list.ensures
+    written_as c.put_list.result c.args.out.now.items c.put_list.new.out.items (ap (fun_expr_text d part c.args.level c.args.keeps) (tree_is_list _ _ _ c.in-List.is c.deref.ensures)) c.put_list.ensures
 
 pub put_expr-returns-in-Tuple : goal.put_expr-returns-in-Tuple
 put_expr-returns-in-Tuple g t c =
     let d = dialect_of c.args.scope.dialect in
     let part = position_seen c.args.scope.part in
-    written_as c.put_tuple.result c.args.out.now.items c.put_tuple.new.out.items (ap (fun_expr_text d part c.args.level c.args.keeps) (ap tree_of c.in-Tuple.is ∙ tree_of_tuple c.in-Tuple.terms)) c.put_tuple.ensures
+    written_as c.put_tuple.result c.args.out.now.items c.put_tuple.new.out.items (ap (fun_expr_text d part c.args.level c.args.keeps) (tree_is_tuple _ _ _ c.in-Tuple.is c.deref-in-Tuple.ensures)) c.put_tuple.ensures
 
 pub put_list-returns-then-is_text : goal.put_list-returns-then-is_text
 put_list-returns-then-is_text g t c =
@@ -67,7 +69,7 @@ put_tuple-returns-then-len-eq1 g t c =
     let d = dialect_of c.args.scope.dialect in
     let part = position_seen c.args.scope.part in
     written_as c.put_elements.result c.args.out.now.items c.put_elements.new.out.items
-    (sym (nested_text d part c.args.level c.args.keeps c.args.terms.now.items c.in-Tuple.inner.items c.index.result.now (omega arith) c.index.ensures (ap tree_of c.in-Tuple.is ∙ tree_of_tuple c.in-Tuple.inner))) c.put_elements.ensures
+    (sym (nested_text d part c.args.level c.args.keeps c.args.terms.now.items c.deref.result.now.items c.index.result.now (omega arith) c.index.ensures (tree_is_tuple _ _ _ c.in-Tuple.is c.deref.ensures))) c.put_elements.ensures
 
 pub put_tuple-returns-else-len-eq1 : goal.put_tuple-returns-else-len-eq1
 put_tuple-returns-else-len-eq1 g t c =
@@ -75,7 +77,7 @@ put_tuple-returns-else-len-eq1 g t c =
     let some : length c.args.terms.now.items ≢ 0 = not_empty c.is_empty.result _ (length c.args.terms.now.items) c.is_empty.ensures c.if-is_empty.false c.args.terms.now.ok.0 in
     let d = dialect_of c.args.scope.dialect in
     let part = position_seen c.args.scope.part in
-    nothing_written c.args.out.now.items _ (crowd_text d part c.args.level c.args.keeps c.args.terms.now.items c.in-Tuple.inner.items c.index.result.now (omega arith) c.index.ensures (ap tree_of c.in-Tuple.is ∙ tree_of_tuple c.in-Tuple.inner))
+    nothing_written c.args.out.now.items _ (crowd_text d part c.args.level c.args.keeps c.args.terms.now.items (arc_value c.in-Tuple.inner).items c.index.result.now (omega arith) c.index.ensures (ap tree_of c.in-Tuple.is ∙ tree_of_tuple c.in-Tuple.inner))
 
 pub put_tuple-returns-in-Atom : goal.put_tuple-returns-in-Atom
 put_tuple-returns-in-Atom g t c =
@@ -101,7 +103,7 @@ put_tuple-returns-in-Int g t c =
       | inl p ↦ nothing_written o _ (int_text d part n k xs x p.0 (omega arith) c.index.ensures (ap tree_of p.1 ∙ tree_of_int _ p.0))
       | inr q ↦ elim q [
         | inl p ↦ nothing_written o _ (pid_text d part n k xs x p.0 (omega arith) c.index.ensures (ap tree_of p.1 ∙ tree_of_pid _ p.0))
-        | inr p ↦ nothing_written o _ (list_tuple_text d part n k xs x (trees_of p.0.items) (omega arith) c.index.ensures (ap tree_of p.1 ∙ tree_of_list p.0))
+        | inr p ↦ nothing_written o _ (list_tuple_text d part n k xs x (trees_of (arc_value p.0).items) (omega arith) c.index.ensures (ap tree_of p.1 ∙ tree_of_list p.0))
       ]
     ]
 

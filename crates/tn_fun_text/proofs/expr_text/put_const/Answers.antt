@@ -1,6 +1,7 @@
 use Rattle.std.proofs.Common.{[], refl, ap, ◌∙◌, arith, inl, inr}
 use Rattle.def_term.specs.Tree.{int, atom, pid, tuple, list}
 use Rattle.tn_term.specs.Views.{tree_of, trees_of}
+use Rattle.std.specs.Arc.{arc_value}
 use Rattle.tn_term.proofs.Views.{tree_of_int, tree_of_atom, tree_of_pid, tree_of_tuple, tree_of_list}
 use Rattle.tn_text.proofs.Growth.{written_as}
 use Rattle.tn_fun_text.specs.Texts.{const_text}
@@ -29,8 +30,8 @@ returns-in-Int g c =
       | inr q ↦ elim q [
         | inl p ↦ no_const_text o xs x (pid p.0) (omega arith) c.index.ensures (ap tree_of p.1 ∙ tree_of_pid _ p.0) refl
         | inr r ↦ elim r [
-          | inl p ↦ no_const_text o xs x (tuple (trees_of p.0.items)) (omega arith) c.index.ensures (ap tree_of p.1 ∙ tree_of_tuple p.0) refl
-          | inr p ↦ no_const_text o xs x (list (trees_of p.0.items)) (omega arith) c.index.ensures (ap tree_of p.1 ∙ tree_of_list p.0) refl
+          | inl p ↦ no_const_text o xs x (tuple (trees_of (arc_value p.0).items)) (omega arith) c.index.ensures (ap tree_of p.1 ∙ tree_of_tuple p.0) refl
+          | inr p ↦ no_const_text o xs x (list (trees_of (arc_value p.0).items)) (omega arith) c.index.ensures (ap tree_of p.1 ∙ tree_of_list p.0) refl
         ]
       ]
     ]
@@ -46,8 +47,8 @@ returns-in-Int-2 g c =
       | inr q ↦ elim q [
         | inl p ↦ no_const_text o xs x (pid p.0) (omega arith) c.index.ensures (ap tree_of p.1 ∙ tree_of_pid _ p.0) refl
         | inr r ↦ elim r [
-          | inl p ↦ no_const_text o xs x (tuple (trees_of p.0.items)) (omega arith) c.index.ensures (ap tree_of p.1 ∙ tree_of_tuple p.0) refl
-          | inr p ↦ no_const_text o xs x (list (trees_of p.0.items)) (omega arith) c.index.ensures (ap tree_of p.1 ∙ tree_of_list p.0) refl
+          | inl p ↦ no_const_text o xs x (tuple (trees_of (arc_value p.0).items)) (omega arith) c.index.ensures (ap tree_of p.1 ∙ tree_of_tuple p.0) refl
+          | inr p ↦ no_const_text o xs x (list (trees_of (arc_value p.0).items)) (omega arith) c.index.ensures (ap tree_of p.1 ∙ tree_of_list p.0) refl
         ]
       ]
     ]
@@ -63,8 +64,8 @@ returns-in-Int-3 g c =
       | inr q ↦ elim q [
         | inl p ↦ no_const_text o xs x (pid p.0) (omega arith) c.index.ensures (ap tree_of p.1 ∙ tree_of_pid _ p.0) refl
         | inr r ↦ elim r [
-          | inl p ↦ no_const_text o xs x (tuple (trees_of p.0.items)) (omega arith) c.index.ensures (ap tree_of p.1 ∙ tree_of_tuple p.0) refl
-          | inr p ↦ no_const_text o xs x (list (trees_of p.0.items)) (omega arith) c.index.ensures (ap tree_of p.1 ∙ tree_of_list p.0) refl
+          | inl p ↦ no_const_text o xs x (tuple (trees_of (arc_value p.0).items)) (omega arith) c.index.ensures (ap tree_of p.1 ∙ tree_of_tuple p.0) refl
+          | inr p ↦ no_const_text o xs x (list (trees_of (arc_value p.0).items)) (omega arith) c.index.ensures (ap tree_of p.1 ∙ tree_of_list p.0) refl
         ]
       ]
     ]
@@ -80,8 +81,8 @@ returns-in-Int-4 g c =
       | inr q ↦ elim q [
         | inl p ↦ no_const_text o xs x (pid p.0) (omega arith) c.index.ensures (ap tree_of p.1 ∙ tree_of_pid _ p.0) refl
         | inr r ↦ elim r [
-          | inl p ↦ no_const_text o xs x (tuple (trees_of p.0.items)) (omega arith) c.index.ensures (ap tree_of p.1 ∙ tree_of_tuple p.0) refl
-          | inr p ↦ no_const_text o xs x (list (trees_of p.0.items)) (omega arith) c.index.ensures (ap tree_of p.1 ∙ tree_of_list p.0) refl
+          | inl p ↦ no_const_text o xs x (tuple (trees_of (arc_value p.0).items)) (omega arith) c.index.ensures (ap tree_of p.1 ∙ tree_of_tuple p.0) refl
+          | inr p ↦ no_const_text o xs x (list (trees_of (arc_value p.0).items)) (omega arith) c.index.ensures (ap tree_of p.1 ∙ tree_of_list p.0) refl
         ]
       ]
     ]

@@ -2,7 +2,9 @@ use Rattle.std.proofs.Common.{◌||◌, true, false, refl, sym, ap, ◌∙◌, a
 use Rattle.def_term.specs.Tree.{Trees, int, atom, pid, tuple, list}
 use Rattle.def_fun.specs.FunTexts.{has_list, have_list}
 use Rattle.tn_term.specs.Views.{tree_of, trees_of}
-use Rattle.tn_term.proofs.Views.{tree_of_int, tree_of_atom, tree_of_pid, tree_of_tuple, tree_of_list}
+use Rattle.std.specs.Arc.{arc_value}
+use Rattle.tn_term.proofs.Elements.{tree_is_tuple}
+use Rattle.tn_term.proofs.Views.{tree_of_int, tree_of_atom, tree_of_pid, tree_of_list}
 use Rattle.tn_fun_text.proofs.Loops.{decided, passed, ended}
 use Rattle.tn_fun_text.proofs.Places.{alone_is, not_one}
 use Rattle.tn_fun_text.proofs.Strings.{several_have_none}
@@ -32,7 +34,7 @@ pub tuple_has_list-returns-in-Tuple : goal.tuple_has_list-returns-in-Tuple
 tuple_has_list-returns-in-Tuple g t c =
     let stored = c.args.terms.now.ok.0 in
     c.has_list_from.ensures
-    ∙ sym (ap (λ ts. has_list (tuple ts)) (alone_is c.args.terms.now.items c.index.result.now (tuple (trees_of c.in-Tuple.inner.items)) (omega arith) c.index.ensures (ap tree_of c.in-Tuple.is ∙ tree_of_tuple c.in-Tuple.inner)))
+    ∙ sym (ap (λ ts. has_list (tuple ts)) (alone_is c.args.terms.now.items c.index.result.now (tuple (trees_of c.deref.result.now.items)) (omega arith) c.index.ensures (tree_is_tuple _ _ _ c.in-Tuple.is c.deref.ensures)))
 
 pub tuple_has_list-returns-in-Int : goal.tuple_has_list-returns-in-Int
 tuple_has_list-returns-in-Int g t c =
@@ -46,10 +48,10 @@ tuple_has_list-returns-in-Int g t c =
         | inl p ↦ sym (ap has (alone_is xs x (atom p.0) (omega arith) c.index.ensures (ap tree_of p.1 ∙ tree_of_atom _ p.0)))
         | inr r ↦ elim r [
           | inl p ↦ sym (ap has (alone_is xs x (pid p.0) (omega arith) c.index.ensures (ap tree_of p.1 ∙ tree_of_pid _ p.0)))
-          | inr p ↦ sym (ap has (alone_is xs x (list (trees_of p.0.items)) (omega arith) c.index.ensures (ap tree_of p.1 ∙ tree_of_list p.0)))
+          | inr p ↦ sym (ap has (alone_is xs x (list (trees_of (arc_value p.0).items)) (omega arith) c.index.ensures (ap tree_of p.1 ∙ tree_of_list p.0)))
         ]
       ]
     ]
 
 pub has_list-returns-in-Tuple : goal.has_list-returns-in-Tuple
-has_list-returns-in-Tuple g t c = c.tuple_has_list.ensures ∙ sym (ap has_list (ap tree_of c.in-Tuple.is ∙ tree_of_tuple c.in-Tuple.terms))
+has_list-returns-in-Tuple g t c = c.tuple_has_list.ensures ∙ sym (ap has_list (tree_is_tuple _ _ _ c.in-Tuple.is c.deref-in-Tuple.ensures))

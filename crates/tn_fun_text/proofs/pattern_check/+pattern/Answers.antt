@@ -3,7 +3,8 @@ use Rattle.std.proofs.lemmas.Result.{err_from_is_err_and}
 use Rattle.def_term.specs.Tree.{atom, list}
 use Rattle.def_fun.specs.FunTexts.{pattern_of_term}
 use Rattle.tn_term.specs.Views.{tree_of, trees_of}
-use Rattle.tn_term.proofs.Views.{tree_of_atom, tree_of_pid, tree_of_tuple, tree_of_list}
+use Rattle.tn_term.proofs.Elements.{tree_is_tuple, tree_is_list}
+use Rattle.tn_term.proofs.Views.{tree_of_atom, tree_of_pid}
 use Rattle.tn_fun_text.specs.Patterns.{greatest_in}
 use Rattle.tn_fun_text.proofs.Heads.{pattern_next, pattern_fails, patterns_end, as_pattern, tuple_greatest, list_greatest, text_greatest}
 use Rattle.tn_fun_text.proofs.pattern_check.+pattern.Goals as goal
@@ -36,11 +37,11 @@ check_pattern-returns-in-Pid g t c = ap (λ u. greatest_in (pattern_of_term c.ar
 
 pub check_pattern-returns-in-Tuple : goal.check_pattern-returns-in-Tuple
 check_pattern-returns-in-Tuple g t c =
-    tuple_greatest c.check_patterns.result c.args.greatest (tree_of c.args.term.now) (trees_of c.in-Tuple.terms.items) (ap tree_of c.in-Tuple.is ∙ tree_of_tuple c.in-Tuple.terms) c.check_patterns.ensures
+    tuple_greatest c.check_patterns.result c.args.greatest (tree_of c.args.term.now) (trees_of c.deref.result.now.items) (tree_is_tuple _ _ _ c.in-Tuple.is c.deref.ensures) c.check_patterns.ensures
 
 pub check_pattern-returns-in-List : goal.check_pattern-returns-in-List
 check_pattern-returns-in-List g t c =
-    as_pattern c.check_list_pattern.result c.args.greatest (tree_of c.args.term.now) (list (trees_of c.in-List.terms.items)) (ap tree_of c.in-List.is ∙ tree_of_list c.in-List.terms) c.check_list_pattern.ensures
+    as_pattern c.check_list_pattern.result c.args.greatest (tree_of c.args.term.now) (list (trees_of c.deref-in-List.result.now.items)) (tree_is_list _ _ _ c.in-List.is c.deref-in-List.ensures) c.check_list_pattern.ensures
 
 pub check_list_pattern-returns-then-is_text : goal.check_list_pattern-returns-then-is_text
 check_list_pattern-returns-then-is_text g t c = (text_greatest c.args.greatest (trees_of c.args.terms.now.items) (sym c.if-is_text.true ∙ c.is_text.ensures), c.requires)

@@ -3,6 +3,8 @@ use Rattle.def_term.specs.Tree.{Trees, int, atom, pid, tuple, list, of_elements}
 use Rattle.def_fun.specs.Translation.{constant_of}
 use Rattle.def_fun.specs.FunTexts.{value_in_fun, values_in_fun}
 use Rattle.tn_term.specs.Views.{tree_of, trees_of}
+use Rattle.std.specs.Arc.{arc_value}
+use Rattle.tn_term.proofs.Elements.{tree_is_tuple, tree_is_list}
 use Rattle.tn_term.proofs.Views.{tree_of_int, tree_of_atom, tree_of_pid, tree_of_tuple, tree_of_list}
 use Rattle.tn_spec.specs.Names.{position_seen}
 use Rattle.tn_spec.specs.Views.{dialect_of}
@@ -42,22 +44,22 @@ value_of-returns-in-Pid g t c =
 pub value_of-returns-in-List : goal.value_of-returns-in-List
 value_of-returns-in-List g t c =
     let w = c.args.scope in
-    as_value c.value_of_list.result constant_seen _ _ (sym (ap (value_in_fun (dialect_of w.dialect) (position_seen w.part)) (ap tree_of c.in-List.is ∙ tree_of_list c.in-List.terms))) c.value_of_list.ensures
+    as_value c.value_of_list.result constant_seen _ _ (sym (ap (value_in_fun (dialect_of w.dialect) (position_seen w.part)) (tree_is_list _ _ _ c.in-List.is c.deref.ensures))) c.value_of_list.ensures
 
 pub value_of-returns-in-Tuple : goal.value_of-returns-in-Tuple
 value_of-returns-in-Tuple g t c =
     let w = c.args.scope in
-    as_value c.value_of_tuple.result constant_seen _ _ (sym (ap (value_in_fun (dialect_of w.dialect) (position_seen w.part)) (ap tree_of c.in-Tuple.is ∙ tree_of_tuple c.in-Tuple.terms))) c.value_of_tuple.ensures
+    as_value c.value_of_tuple.result constant_seen _ _ (sym (ap (value_in_fun (dialect_of w.dialect) (position_seen w.part)) (tree_is_tuple _ _ _ c.in-Tuple.is c.deref-in-Tuple.ensures))) c.value_of_tuple.ensures
 
 pub value_of_list-returns-then-is_text : goal.value_of_list-returns-then-is_text
 value_of_list-returns-then-is_text g t c =
     let w = c.args.scope in
     text_value (dialect_of w.dialect) (position_seen w.part) (trees_of c.args.terms.now.items) (sym c.if-is_text.true ∙ c.is_text.ensures)
 
-pub value_of_list-returns-in-Some : goal.value_of_list-returns-in-Some
-value_of_list-returns-in-Some g t c =
+pub value_of_list-returns-in_ok-list-in-Some : goal.value_of_list-returns-in_ok-list-in-Some
+value_of_list-returns-in_ok-list-in-Some g t c =
     let w = c.args.scope in
-    ap Some (tree_of_list c.in-Some.values)
+    ap Some c.in_ok-list-in-Some.ensures
     ∙ list_value (dialect_of w.dialect) (position_seen w.part) (trees_of c.args.terms.now.items) (Some (map tree_of c.in-Some.values.items)) (sym c.if-is_text.false ∙ c.is_text.ensures) (ap constants_seen (sym c.in-Some.is) ∙ c.in_ok-values.ensures)
 
 pub value_of_list-returns-in-None : goal.value_of_list-returns-in-None
@@ -65,8 +67,8 @@ value_of_list-returns-in-None g t c =
     let w = c.args.scope in
     list_value (dialect_of w.dialect) (position_seen w.part) (trees_of c.args.terms.now.items) None (sym c.if-is_text.false ∙ c.is_text.ensures) (ap constants_seen (sym c.in-None.is) ∙ c.in_ok-values.ensures)
 
-pub value_of_elements-returns-in-Some : goal.value_of_elements-returns-in-Some
-value_of_elements-returns-in-Some g t c = ap Some (tree_of_tuple c.in-Some.values) ∙ ap (constant_of (λ vs. tuple (of_elements vs))) (ap constants_seen (sym c.in-Some.is) ∙ c.in_ok-values.ensures)
+pub value_of_elements-returns-in_ok-tuple-in-Some : goal.value_of_elements-returns-in_ok-tuple-in-Some
+value_of_elements-returns-in_ok-tuple-in-Some g t c = ap Some c.in_ok-tuple-in-Some.ensures ∙ ap (constant_of (λ vs. tuple (of_elements vs))) (ap constants_seen (sym c.in-Some.is) ∙ c.in_ok-values.ensures)
 
 pub value_of_elements-returns-in-None : goal.value_of_elements-returns-in-None
 value_of_elements-returns-in-None g t c = ap (constant_of (λ vs. tuple (of_elements vs))) (ap constants_seen (sym c.in-None.is) ∙ c.in_ok-values.ensures)
@@ -83,14 +85,14 @@ value_of_tuple-returns-then-len-eq1 g t c =
     let w = c.args.scope in
     let value = λ (ts : Trees). value_in_fun (dialect_of w.dialect) (position_seen w.part) (tuple ts) in
     as_value c.value_of_elements.result constant_seen _ _
-    (sym (ap value (alone_is c.args.terms.now.items c.index.result.now (tuple (trees_of c.in-Tuple.inner.items)) (omega arith) c.index.ensures (ap tree_of c.in-Tuple.is ∙ tree_of_tuple c.in-Tuple.inner)))) c.value_of_elements.ensures
+    (sym (ap value (alone_is c.args.terms.now.items c.index.result.now (tuple (trees_of c.deref.result.now.items)) (omega arith) c.index.ensures (tree_is_tuple _ _ _ c.in-Tuple.is c.deref.ensures)))) c.value_of_elements.ensures
 
 pub value_of_tuple-returns-else-len-eq1 : goal.value_of_tuple-returns-else-len-eq1
 value_of_tuple-returns-else-len-eq1 g t c =
     let stored = c.args.terms.now.ok.0 in
     let some : length c.args.terms.now.items ≢ 0 = not_empty c.is_empty.result _ (length c.args.terms.now.items) c.is_empty.ensures c.if-is_empty.false c.args.terms.now.ok.0 in
     let w = c.args.scope in
-    sym (crowd (λ ts. value_in_fun (dialect_of w.dialect) (position_seen w.part) (tuple ts) ≡ None) (tuple (trees_of c.in-Tuple.inner.items)) (λ u us. refl) c.args.terms.now.items c.index.result.now (omega arith) c.index.ensures (ap tree_of c.in-Tuple.is ∙ tree_of_tuple c.in-Tuple.inner))
+    sym (crowd (λ ts. value_in_fun (dialect_of w.dialect) (position_seen w.part) (tuple ts) ≡ None) (tuple (trees_of (arc_value c.in-Tuple.inner).items)) (λ u us. refl) c.args.terms.now.items c.index.result.now (omega arith) c.index.ensures (ap tree_of c.in-Tuple.is ∙ tree_of_tuple c.in-Tuple.inner))
 
 pub value_of_tuple-returns-in-Atom : goal.value_of_tuple-returns-in-Atom
 value_of_tuple-returns-in-Atom g t c =
@@ -113,7 +115,7 @@ value_of_tuple-returns-in-Int g t c =
       | inl p ↦ sym (ap value (first_is xs x (int p.0) (omega arith) c.index.ensures (ap tree_of p.1 ∙ tree_of_int _ p.0)))
       | inr q ↦ elim q [
         | inl p ↦ sym (ap value (first_is xs x (pid p.0) (omega arith) c.index.ensures (ap tree_of p.1 ∙ tree_of_pid _ p.0)))
-        | inr p ↦ sym (ap value (first_is xs x (list (trees_of p.0.items)) (omega arith) c.index.ensures (ap tree_of p.1 ∙ tree_of_list p.0)))
+        | inr p ↦ sym (ap value (first_is xs x (list (trees_of (arc_value p.0).items)) (omega arith) c.index.ensures (ap tree_of p.1 ∙ tree_of_list p.0)))
       ]
     ]
 

@@ -2,6 +2,7 @@ use Rattle.std.proofs.Common.{Some, None, refl, sym, ap, ◌∙◌, arith, inl, 
 use Rattle.def_term.specs.Tree.{int, atom, pid, tuple, list}
 use Rattle.def_fun.specs.FunTexts.{value_of_const}
 use Rattle.tn_term.specs.Views.{tree_of, trees_of}
+use Rattle.std.specs.Arc.{arc_value}
 use Rattle.tn_term.proofs.Views.{tree_of_int, tree_of_atom, tree_of_pid, tree_of_tuple, tree_of_list}
 use Rattle.tn_fun_text.proofs.Places.{second_is, not_two}
 use Rattle.tn_fun_text.proofs.ConstantValues.{several_consts}
@@ -28,8 +29,8 @@ returns-in-Int g c =
       | inr q ↦ elim q [
         | inl p ↦ sym (ap value_of_const (second_is xs x (pid p.0) (omega arith) c.index.ensures (ap tree_of p.1 ∙ tree_of_pid _ p.0)))
         | inr r ↦ elim r [
-          | inl p ↦ sym (ap value_of_const (second_is xs x (tuple (trees_of p.0.items)) (omega arith) c.index.ensures (ap tree_of p.1 ∙ tree_of_tuple p.0)))
-          | inr p ↦ sym (ap value_of_const (second_is xs x (list (trees_of p.0.items)) (omega arith) c.index.ensures (ap tree_of p.1 ∙ tree_of_list p.0)))
+          | inl p ↦ sym (ap value_of_const (second_is xs x (tuple (trees_of (arc_value p.0).items)) (omega arith) c.index.ensures (ap tree_of p.1 ∙ tree_of_tuple p.0)))
+          | inr p ↦ sym (ap value_of_const (second_is xs x (list (trees_of (arc_value p.0).items)) (omega arith) c.index.ensures (ap tree_of p.1 ∙ tree_of_list p.0)))
         ]
       ]
     ]

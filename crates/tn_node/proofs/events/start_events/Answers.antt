@@ -10,7 +10,7 @@ use Rattle.tn_node.proofs.events.start_events.Goals as goal
 pub returns : goal.returns
 returns g c =
     let e = entry_of c.args.entry.now in
-    let own : map shared_tree c.in_ok-args.args.items ≡ e.args = c.in_ok-args.ensures ∙ c.in_ok-copy_terms.ensures ∙ ap (map tree_of) c.deref.ensures.value in
+    let own : map shared_tree c.in_ok-args.args.items ≡ e.args = c.in_ok-args.ensures ∙ c.in_ok-share_terms.ensures ∙ ap (map tree_of) c.deref.ensures.value in
     let lent : map shared_tree c.in_ok-share_arguments.field-0.items ≡ e.args = c.in_ok-share_arguments.ensures ∙ own in
     let one = Spawn c.args.pid c.args.child c.in_ok-entry_mfa.field-0 c.in_ok-share_arguments.field-0 in
     let two = Spawned c.args.child c.args.pid c.in_ok-entry_mfa-2.field-0 c.in_ok-args.args in

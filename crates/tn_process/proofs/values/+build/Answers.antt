@@ -1,10 +1,10 @@
-use Rattle.std.proofs.Common.{◌≡◌, ◌-◌, ◌++◌, ◌∷◌, [], arith, rules, ap, sym, subst, ◌∙◌}
+use Rattle.std.proofs.Common.{◌≡◌, ◌-◌, ◌++◌, ◌∷◌, [], arith, rules, ap, sym, subst}
 use Rattle.def_term.specs.Tree.{sum_of_sizes, greatest_depth}
 use Rattle.def_node.specs.Values.{instance_of, all_built}
 use Rattle.tn_term.specs.Views.{tree_of, trees_of}
 use Rattle.tn_term.proofs.Steps.{made_more}
 use Rattle.tn_term.proofs.Trees.{here, past}
-use Rattle.tn_term.proofs.Views.{tree_of_tuple, tree_of_list}
+use Rattle.tn_term.proofs.Elements.{tree_is_tuple, tree_is_list}
 use Rattle.tn_process.specs.Templates.{IsBuiltIn}
 use Rattle.tn_process.specs.Views.{env_of}
 use Rattle.tn_process.proofs.Templates.{no_room, past_elements, elements_built}
@@ -13,15 +13,15 @@ use Rattle.tn_process.proofs.values.+build.Goals as goal
 pub build_term-returns-then-size-eq0 : goal.build_term-returns-then-size-eq0
 build_term-returns-then-size-eq0 g t c = no_room _ _ _ c.if-size-eq0.true
 
-pub build_term-returns-in_ok-elements-in-Tuple : goal.build_term-returns-in_ok-elements-in-Tuple
-build_term-returns-in_ok-elements-in-Tuple g t c =
-    let is = ap (instance_of (env_of c.args.env.now)) (ap tree_of c.in-Tuple.is ∙ tree_of_tuple c.in-Tuple.v) in
-    subst (λ u. IsBuiltIn c.args.size c.args.depth u c.tuple_of.result) (sym is) (c.tuple_of.ensures _ _ _ c.in_ok-elements-in-Tuple.ensures)
+pub build_term-returns-in_ok-tuple_of-in-Tuple : goal.build_term-returns-in_ok-tuple_of-in-Tuple
+build_term-returns-in_ok-tuple_of-in-Tuple g t c =
+    let is = ap (instance_of (env_of c.args.env.now)) (tree_is_tuple _ _ _ c.in-Tuple.is c.deref.ensures) in
+    subst (λ u. IsBuiltIn c.args.size c.args.depth u c.in_ok-tuple_of-in-Tuple.field-0) (sym is) (c.in_ok-tuple_of-in-Tuple.ensures _ _ _ c.in_ok-elements-in-Tuple.ensures)
 
-pub build_term-returns-in_ok-elements-in-List : goal.build_term-returns-in_ok-elements-in-List
-build_term-returns-in_ok-elements-in-List g t c =
-    let is = ap (instance_of (env_of c.args.env.now)) (ap tree_of c.in-List.is ∙ tree_of_list c.in-List.v) in
-    subst (λ u. IsBuiltIn c.args.size c.args.depth u c.list_of.result) (sym is) (c.list_of.ensures _ _ _ c.in_ok-elements-in-List.ensures)
+pub build_term-returns-in_ok-list_of-in-List : goal.build_term-returns-in_ok-list_of-in-List
+build_term-returns-in_ok-list_of-in-List g t c =
+    let is = ap (instance_of (env_of c.args.env.now)) (tree_is_list _ _ _ c.in-List.is c.deref-in-List.ensures) in
+    subst (λ u. IsBuiltIn c.args.size c.args.depth u c.in_ok-list_of-in-List.field-0) (sym is) (c.in_ok-list_of-in-List.ensures _ _ _ c.in_ok-elements-in-List.ensures)
 
 pub build_terms-returns-in_default : goal.build_terms-returns-in_default
 build_terms-returns-in_default g t c =

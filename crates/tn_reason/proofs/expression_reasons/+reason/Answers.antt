@@ -1,4 +1,5 @@
 use Rattle.std.proofs.Common.{◌∙◌, ◌-◌, ◌<◌, false, true, length, drop, refl, sym, ap, arith, inl, inr}
+use Rattle.std.specs.Arc.{arc_value}
 use Rattle.def_term.specs.Tree.{int, pid, tuple, list, atom}
 use Rattle.def_explain.specs.SpecReasons.{expressions_in, expressions_in_each, own_reason}
 use Rattle.tn_term.specs.Views.{tree_of, trees_of}
@@ -53,7 +54,7 @@ named_reason-returns g t c =
 pub tuple_reason-returns-else-len-eq1 : goal.tuple_reason-returns-else-len-eq1
 tuple_reason-returns-else-len-eq1 g t c =
     let stored = c.args.terms.now.ok.0 in
-    crowded (dialect_of c.args.dialect) (position_seen c.args.part) (head_in c.args.head.now) c.args.terms.now.items c.in-Tuple.inner.items c.index.result.now (omega arith) c.index.ensures
+    crowded (dialect_of c.args.dialect) (position_seen c.args.part) (head_in c.args.head.now) c.args.terms.now.items (arc_value c.in-Tuple.inner).items c.index.result.now (omega arith) c.index.ensures
     (ap tree_of c.in-Tuple.is ∙ tree_of_tuple c.in-Tuple.inner)
 
 pub tuple_reason-returns-in-Atom : goal.tuple_reason-returns-in-Atom
@@ -77,6 +78,6 @@ tuple_reason-returns-in-Int g t c =
       | inl p ↦ no_call_by d part head xs x (int p.0) some c.index.ensures (ap tree_of p.1 ∙ tree_of_int _ p.0) refl
       | inr q ↦ elim q [
         | inl p ↦ no_call_by d part head xs x (pid p.0) some c.index.ensures (ap tree_of p.1 ∙ tree_of_pid _ p.0) refl
-        | inr p ↦ no_call_by d part head xs x (list (trees_of p.0.items)) some c.index.ensures (ap tree_of p.1 ∙ tree_of_list p.0) refl
+        | inr p ↦ no_call_by d part head xs x (list (trees_of (arc_value p.0).items)) some c.index.ensures (ap tree_of p.1 ∙ tree_of_list p.0) refl
       ]
     ]

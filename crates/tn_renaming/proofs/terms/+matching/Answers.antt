@@ -1,6 +1,7 @@
 use Rattle.std.proofs.Common.{◌≡◌, ◌+◌, false, drop, length, arith, rules}
 use Rattle.def_renaming.specs.Renaming.{with_term_pairs, with_element_pairs}
 use Rattle.tn_term.specs.Views.{tree_of, trees_of}
+use Rattle.tn_term.proofs.Elements.{tree_is_tuple, tree_is_list}
 use Rattle.tn_renaming.specs.Pairs.{pairs_seen}
 use Rattle.tn_renaming.proofs.Matches.{leaf, goes_on, stops, all_here, lengths_differ}
 use Rattle.tn_renaming.proofs.TermMatches.{as_whole, tuples_match, lists_match}
@@ -11,7 +12,8 @@ match_term-returns-in-Tuple-Tuple g t c =
     let p = c.in-Tuple-Tuple in
     let old = pairs_seen c.args.pairs.now in
     as_whole c.match_terms.result old (pairs_seen c.match_terms.new.pairs) _ _
-    (tuples_match old c.args.there.now c.args.here.now p.v p.w c.as_slice.result.now c.as_slice-in-Tuple-Tuple.result.now p.is-0 p.is-1 c.as_slice.ensures.value c.as_slice-in-Tuple-Tuple.ensures.value)
+    (tuples_match old c.args.there.now c.args.here.now c.deref.result.now c.deref-in-Tuple-Tuple.result.now c.as_slice.result.now c.as_slice-in-Tuple-Tuple.result.now
+    (tree_is_tuple _ _ _ p.is-0 c.deref.ensures) (tree_is_tuple _ _ _ p.is-1 c.deref-in-Tuple-Tuple.ensures) c.as_slice.ensures.value c.as_slice-in-Tuple-Tuple.ensures.value)
     c.match_terms.ensures
 
 pub match_term-returns-in-List-List : goal.match_term-returns-in-List-List
@@ -19,7 +21,8 @@ match_term-returns-in-List-List g t c =
     let p = c.in-List-List in
     let old = pairs_seen c.args.pairs.now in
     as_whole c.match_terms-in-List-List.result old (pairs_seen c.match_terms-in-List-List.new.pairs) _ _
-    (lists_match old c.args.there.now c.args.here.now p.v p.w c.as_slice-in-List-List.result.now c.as_slice-in-List-List-2.result.now p.is-0 p.is-1 c.as_slice-in-List-List.ensures.value c.as_slice-in-List-List-2.ensures.value)
+    (lists_match old c.args.there.now c.args.here.now c.deref-in-List-List.result.now c.deref-in-List-List-2.result.now c.as_slice-in-List-List.result.now c.as_slice-in-List-List-2.result.now
+    (tree_is_list _ _ _ p.is-0 c.deref-in-List-List.ensures) (tree_is_list _ _ _ p.is-1 c.deref-in-List-List-2.ensures) c.as_slice-in-List-List.ensures.value c.as_slice-in-List-List-2.ensures.value)
     c.match_terms-in-List-List.ensures
 
 pub match_terms-returns-then-there-here : goal.match_terms-returns-then-there-here

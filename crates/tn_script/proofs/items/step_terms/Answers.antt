@@ -23,7 +23,7 @@ returns-in_default-2 g c =
 
 pub returns : goal.returns
 returns g c =
-    c.list.ensures
+    c.in_ok-list.ensures
     ∙ terms_listed (name_in (tree_of {A = g.row.A.Denot} c.in-Some.home)) (name_in (tree_of {A = g.row.A.Denot} c.in-Some.function)) (exported_in (tree_of {A = g.row.A.Denot} c.in-Some.visibility)) (params_in (tree_of {A = g.row.A.Denot} c.in-Some.parameters)) (list_in (tree_of {A = g.row.A.Denot} c.in-Some.body))
     c.in-Some-function_head.field-0 c.in-Some-2.field-0.items
     c.in-Some-function_head.ensures (ap (option_map (λ v. v.items)) (sym c.in-Some-2.is) ∙ c.in_ok-params.ensures.value)

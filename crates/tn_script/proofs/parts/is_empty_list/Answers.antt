@@ -6,5 +6,5 @@ use Rattle.tn_script.proofs.parts.is_empty_list.Goals as goal
 
 pub returns-in-List : goal.returns-in-List
 returns-in-List g c =
-    c.is_empty.ensures ∙ ap (λ xs. length xs == 0) c.as_slice.ensures.value ∙ empty_of_list {A = g.row.A.Denot} c.in-List.terms
+    c.is_empty.ensures ∙ ap (λ xs. length xs == 0) (c.as_slice.ensures.value ∙ ap (λ v. v.items) c.deref.ensures) ∙ empty_of_list {A = g.row.A.Denot} c.in-List.terms
     ∙ ap (λ t. is_empty_list (tree_of {A = g.row.A.Denot} t)) (sym c.in-List.is)

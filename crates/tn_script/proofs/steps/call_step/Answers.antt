@@ -1,8 +1,5 @@
-use Rattle.std.proofs.Common.{ap, ◌∙◌}
-use Rattle.std.specs.Option.{option_map}
-use Rattle.tn_script.specs.Views.{step_of}
 use Rattle.tn_script.proofs.OfTerms.{no_call}
 use Rattle.tn_script.proofs.steps.call_step.Goals as goal
 
-pub returns-in_err-v : goal.returns-in_err-v
-returns-in_err-v g c = ap (option_map (step_of {A = g.row.A.Denot})) c.from_residual.ensures ∙ no_call {A = g.row.A.Denot} c.args.fields.items c.in_err-v.ensures
+pub returns-in_default : goal.returns-in_default
+returns-in_default g c = no_call {A = g.row.A.Denot} c.args.fields.items c.in_default.ensures

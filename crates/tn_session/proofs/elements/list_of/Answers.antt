@@ -4,7 +4,6 @@ use Rattle.def_term.specs.Tree.{list, of_elements}
 use Rattle.tn_term.specs.SharedTree.{shared_tree}
 use Rattle.tn_term.specs.Views.{tree_of}
 use Rattle.tn_term.proofs.Steps.{made_more}
-use Rattle.tn_term.proofs.Views.{tree_of_list}
 use Rattle.tn_session.proofs.elements.list_of.Goals as goal
 
 pub loop-arg-preserved : goal.loop-arg-preserved
@@ -16,5 +15,5 @@ loop-arg-preserved g c =
 pub returns : goal.returns
 returns g c =
     let s = c.loop-arg in
-    tree_of_list s.copies
+    c.in_ok-list.ensures
     ∙ ap (λ ts. list (of_elements ts)) (s.invariant ∙ ap (map shared_tree) (take_all s.arg-index c.deref-arg-items.result.now (omega arith) ∙ c.deref-arg-items.ensures.value))

@@ -1,10 +1,12 @@
 use Rattle.std.proofs.Common.{◌≡◌, ◌∙◌, ◌-◌, ◌<◌, false, true, length, drop, map, sym, ap, subst, arith, inl, inr}
 use Rattle.std.proofs.lemmas.Result.{err_from_is_err_and}
+use Rattle.std.specs.Arc.{arc_value}
 use Rattle.def_term.specs.Tree.{int, pid, tuple, list, atom, Trees}
 use Rattle.def_spec.specs.Expressions.{constant}
 use Rattle.def_spec.specs.Reading.{is_constant, expr_of}
 use Rattle.tn_term.specs.Views.{tree_of, trees_of}
 use Rattle.tn_term.proofs.Views.{tree_of_int, tree_of_pid, tree_of_list, tree_of_atom, tree_of_tuple}
+use Rattle.tn_term.proofs.Elements.{tree_is_tuple}
 use Rattle.tn_spec.specs.Answers.{IsRead, each_read}
 use Rattle.tn_spec.specs.Names.{called_seen, position_seen}
 use Rattle.tn_spec.specs.Readings.{head_in}
@@ -23,7 +25,7 @@ call_expr-returns-then-is_const g t c =
     let const : is_constant c.args.name.now (trees_of (drop 1 xs)) ≡ true = const_is c.args.name.now c.text.result.now (c.len-args.result - 1) _ c.is_const.result true c.is_const.ensures c.text.ensures.text counted c.if-is_const.true in
     let one : c.len-args.result - 1 ≡ 1 = one_further _ c.is_const.result (c.len-args.result - 1) c.is_const.ensures c.if-is_const.true in
     constant_read (dialect_of c.args.dialect) (position_seen c.args.part) (head_in c.args.head.now) c.args.name.now (trees_of (drop 1 xs)) _ const
-    (expr_seen_constant c.in_ok-copy_into.field-0 ∙ ap constant (c.in_ok-copy_into.ensures ∙ sym (second_seen xs c.index.result.now (omega arith) c.index.ensures)))
+    (expr_seen_constant c.in_ok-share.field-0 ∙ ap constant (c.in_ok-share.ensures ∙ sym (second_seen xs c.index.result.now (omega arith) c.index.ensures)))
 
 pub call_expr-returns-in_err-called : goal.call_expr-returns-in_err-called
 call_expr-returns-in_err-called g t c =
@@ -82,19 +84,19 @@ tuple_expr-returns-in_err-exprs-in-Tuple g t c =
     let stored = c.args.terms.now.ok.0 in
     let p = err_from_is_err_and c.from_residual.result c.from_residual.ensures.1 in
     rw (p.1, p.2)
-    (nested_fails (dialect_of c.args.dialect) (position_seen c.args.part) (head_in c.args.head.now) c.args.terms.now.items c.in-Tuple.v.items c.index.result.now c.in_err-exprs-in-Tuple.field-0.0
-    (omega arith) c.index.ensures (ap tree_of c.in-Tuple.is ∙ tree_of_tuple c.in-Tuple.v) c.in_err-exprs-in-Tuple.ensures)
+    (nested_fails (dialect_of c.args.dialect) (position_seen c.args.part) (head_in c.args.head.now) c.args.terms.now.items c.deref.result.now.items c.index.result.now c.in_err-exprs-in-Tuple.field-0.0
+    (omega arith) c.index.ensures (tree_is_tuple _ _ _ c.in-Tuple.is c.deref.ensures) c.in_err-exprs-in-Tuple.ensures)
 
 pub tuple_expr-returns-in_ok-exprs-in-Tuple : goal.tuple_expr-returns-in_ok-exprs-in-Tuple
 tuple_expr-returns-in_ok-exprs-in-Tuple g t c =
     let stored = c.args.terms.now.ok.0 in
-    nested_read (dialect_of c.args.dialect) (position_seen c.args.part) (head_in c.args.head.now) c.args.terms.now.items c.in-Tuple.v.items c.index.result.now (expr_list c.in_ok-exprs-in-Tuple.field-0) _
-    (omega arith) c.index.ensures (ap tree_of c.in-Tuple.is ∙ tree_of_tuple c.in-Tuple.v) c.in_ok-exprs-in-Tuple.ensures (expr_seen_tuple c.in_ok-exprs-in-Tuple.field-0)
+    nested_read (dialect_of c.args.dialect) (position_seen c.args.part) (head_in c.args.head.now) c.args.terms.now.items c.deref.result.now.items c.index.result.now (expr_list c.in_ok-exprs-in-Tuple.field-0) _
+    (omega arith) c.index.ensures (tree_is_tuple _ _ _ c.in-Tuple.is c.deref.ensures) c.in_ok-exprs-in-Tuple.ensures (expr_seen_tuple c.in_ok-exprs-in-Tuple.field-0)
 
 pub tuple_expr-returns-else-len-eq1 : goal.tuple_expr-returns-else-len-eq1
 tuple_expr-returns-else-len-eq1 g t c =
     let stored = c.args.terms.now.ok.0 in
-    crowded (dialect_of c.args.dialect) (position_seen c.args.part) (head_in c.args.head.now) c.args.terms.now.items c.in-Tuple.v.items c.index.result.now (omega arith) c.index.ensures (ap tree_of c.in-Tuple.is ∙ tree_of_tuple c.in-Tuple.v)
+    crowded (dialect_of c.args.dialect) (position_seen c.args.part) (head_in c.args.head.now) c.args.terms.now.items (arc_value c.in-Tuple.v).items c.index.result.now (omega arith) c.index.ensures (ap tree_of c.in-Tuple.is ∙ tree_of_tuple c.in-Tuple.v)
 
 pub tuple_expr-returns-in-Atom : goal.tuple_expr-returns-in-Atom
 tuple_expr-returns-in-Atom g t c =
@@ -113,7 +115,7 @@ tuple_expr-returns-in-Int g t c =
       | inl p ↦ ap read (first_is xs x (int p.0) some c.index.ensures (ap tree_of p.1 ∙ tree_of_int _ p.0))
       | inr q ↦ elim q [
         | inl p ↦ ap read (first_is xs x (pid p.0) some c.index.ensures (ap tree_of p.1 ∙ tree_of_pid _ p.0))
-        | inr p ↦ ap read (first_is xs x (list (trees_of p.0.items)) some c.index.ensures (ap tree_of p.1 ∙ tree_of_list p.0))
+        | inr p ↦ ap read (first_is xs x (list (trees_of (arc_value p.0).items)) some c.index.ensures (ap tree_of p.1 ∙ tree_of_list p.0))
       ]
     ]
 
@@ -126,4 +128,4 @@ expr-returns-in-Pid g t c = pid_expr c.args.term.now (dialect_of c.args.dialect)
 
 pub expr-returns-in-Tuple : goal.expr-returns-in-Tuple
 expr-returns-in-Tuple g t c =
-    tuple_expr_read c.args.term.now (dialect_of c.args.dialect) (position_seen c.args.part) (head_in c.args.head.now) c.in-Tuple.v c.tuple_expr.result c.in-Tuple.is c.tuple_expr.ensures
+    tuple_expr_read c.args.term.now (dialect_of c.args.dialect) (position_seen c.args.part) (head_in c.args.head.now) c.deref.result.now c.tuple_expr.result (tree_is_tuple _ _ _ c.in-Tuple.is c.deref.ensures) c.tuple_expr.ensures

@@ -2,6 +2,7 @@ use Rattle.std.proofs.Common.{map, arith}
 use Rattle.std.proofs.lemmas.Result.{err_from_is_err_and}
 use Rattle.def_spec.specs.Reading.{pattern_of}
 use Rattle.tn_term.specs.Views.{tree_of}
+use Rattle.tn_term.proofs.Elements.{tree_is_tuple, tree_is_list}
 use Rattle.tn_spec.specs.Answers.{each_read}
 use Rattle.tn_spec.specs.Views.{pattern_seen}
 use Rattle.tn_spec.proofs.Arms.{atom_pattern_read, pid_pattern, tuple_pattern, tuple_pattern_fails, list_pattern, list_pattern_fails}
@@ -35,15 +36,15 @@ pattern-returns-in-Pid g t c = pid_pattern c.args.term.now c.in-Pid.n c.in-Pid.i
 pub pattern-returns-in_err-patterns-in-Tuple : goal.pattern-returns-in_err-patterns-in-Tuple
 pattern-returns-in_err-patterns-in-Tuple g t c =
     let p = err_from_is_err_and c.from_residual.result c.from_residual.ensures.1 in
-    rw (p.1, p.2) (tuple_pattern_fails c.args.term.now c.in-Tuple.v c.in_err-patterns-in-Tuple.field-0.0 c.in-Tuple.is c.in_err-patterns-in-Tuple.ensures)
+    rw (p.1, p.2) (tuple_pattern_fails c.args.term.now c.deref.result.now c.in_err-patterns-in-Tuple.field-0.0 (tree_is_tuple _ _ _ c.in-Tuple.is c.deref.ensures) c.in_err-patterns-in-Tuple.ensures)
 
 pub pattern-returns-in_ok-patterns-in-Tuple : goal.pattern-returns-in_ok-patterns-in-Tuple
-pattern-returns-in_ok-patterns-in-Tuple g t c = tuple_pattern c.args.term.now c.in-Tuple.v c.in_ok-patterns-in-Tuple.field-0 c.in-Tuple.is c.in_ok-patterns-in-Tuple.ensures
+pattern-returns-in_ok-patterns-in-Tuple g t c = tuple_pattern c.args.term.now c.deref.result.now c.in_ok-patterns-in-Tuple.field-0 (tree_is_tuple _ _ _ c.in-Tuple.is c.deref.ensures) c.in_ok-patterns-in-Tuple.ensures
 
 pub pattern-returns-in_err-patterns-in-List : goal.pattern-returns-in_err-patterns-in-List
 pattern-returns-in_err-patterns-in-List g t c =
     let p = err_from_is_err_and c.from_residual-in_err-patterns-in-List.result c.from_residual-in_err-patterns-in-List.ensures.1 in
-    rw (p.1, p.2) (list_pattern_fails c.args.term.now c.in-List.v c.in_err-patterns-in-List.field-0.0 c.in-List.is c.in_err-patterns-in-List.ensures)
+    rw (p.1, p.2) (list_pattern_fails c.args.term.now c.deref-in-List.result.now c.in_err-patterns-in-List.field-0.0 (tree_is_list _ _ _ c.in-List.is c.deref-in-List.ensures) c.in_err-patterns-in-List.ensures)
 
 pub pattern-returns-in_ok-patterns-in-List : goal.pattern-returns-in_ok-patterns-in-List
-pattern-returns-in_ok-patterns-in-List g t c = list_pattern c.args.term.now c.in-List.v c.in_ok-patterns-in-List.field-0 c.in-List.is c.in_ok-patterns-in-List.ensures
+pattern-returns-in_ok-patterns-in-List g t c = list_pattern c.args.term.now c.deref-in-List.result.now c.in_ok-patterns-in-List.field-0 (tree_is_list _ _ _ c.in-List.is c.deref-in-List.ensures) c.in_ok-patterns-in-List.ensures

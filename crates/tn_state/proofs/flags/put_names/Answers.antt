@@ -2,7 +2,6 @@ use Rattle.std.proofs.Common.{◌∙◌, ◌∷◌, map, sym, ap}
 use Rattle.def_state.specs.Lines.{pair_term, terms_line}
 use Rattle.def_state.specs.SessionTexts.{flags_term}
 use Rattle.def_term.specs.Names.{word}
-use Rattle.tn_term.proofs.Views.{tree_of_list}
 use Rattle.tn_term.specs.Views.{tree_of}
 use Rattle.tn_text.proofs.Growth.{some_there, written_as}
 use Rattle.tn_state.proofs.FlagTexts.{some_flags}
@@ -19,5 +18,5 @@ returns g c =
     (some_flags owner tree_of names.items some
     ∙ sym (ap (λ ts. terms_line (owner ∷ ts))
     (one_term tree_of c.new-others.result.items c.push.new.self.items c.in_ok-flags.flags flags c.deref.result.now c.new-others.ensures.items c.in_ok-push.ensures.items c.deref.ensures.value
-    (c.in_ok-flags.ensures ∙ ap (pair_term (word "flags")) (tree_of_list names)))))
+    (c.in_ok-flags.ensures ∙ ap (pair_term (word "flags")) c.in_ok-list.ensures))))
     c.put_line.ensures

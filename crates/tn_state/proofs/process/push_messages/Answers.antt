@@ -11,5 +11,5 @@ loop-message-preserved g c =
     let ms = c.args.messages.now in
     let i = l.message-index in
     let m = c.message-item.result in
-    one_pushed tree_of l.terms.items c.push.new.self.items c.in_ok-copy_into.field-0 (shared_tree (get_or ms i m)) _ (map shared_tree (drop (i + 1) ms)) _ c.in_ok-push.ensures.items
-    (c.in_ok-copy_into.ensures ∙ c.term.ensures ∙ ap shared_tree c.message-item.is) (ap (map shared_tree) (drop_more ms i m c.loop-message-test.true)) l.invariant
+    one_pushed tree_of l.terms.items c.push.new.self.items c.in_ok-share.field-0 (shared_tree (get_or ms i m)) _ (map shared_tree (drop (i + 1) ms)) _ c.in_ok-push.ensures.items
+    (c.in_ok-share.ensures ∙ c.term.ensures ∙ ap shared_tree c.message-item.is) (ap (map shared_tree) (drop_more ms i m c.loop-message-test.true)) l.invariant

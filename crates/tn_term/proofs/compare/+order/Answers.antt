@@ -1,10 +1,11 @@
-use Rattle.std.proofs.Common.{◌≡◌, ap, ap₂, ◌∙◌, sym, arith, rules, length}
+use Rattle.std.proofs.Common.{◌≡◌, ap, ap₂, ◌∙◌, sym, arith, length, vec_len}
 use Rattle.std.specs.Ordering.{nat_cmp, ordering_then}
 use Rattle.std.specs.declared.cmp.Ordering.TheVariants.{Equal}
+use Rattle.std.specs.Arc.{arc_value}
 use Rattle.def_term.specs.Tree.{tuple}
 use Rattle.def_term.specs.Order.{rank, tree_cmp, trees_cmp}
 use Rattle.tn_term.specs.Views.{tree_of, trees_of}
-use Rattle.tn_term.specs.declared.term.Term.{the_lemmas}
+use Rattle.tn_term.proofs.Views.{tree_of_tuple}
 use Rattle.tn_term.proofs.Trees.{cmp_end, tuple_order, then_unequal}
 use Rattle.tn_term.proofs.Leaves.{order_of_ints, order_of_atoms, order_of_pids}
 use Rattle.tn_term.proofs.Ranks.{only_int, only_atom, only_pid, only_tuple, only_list, ranks_decide}
@@ -22,24 +23,27 @@ order_all-returns g t c =
 
 pub order_terms-returns-in-Equal : goal.order_terms-returns-in-Equal
 order_terms-returns-in-Equal g t c =
-    let v = c.in-Tuple-Tuple.v in
-    let w = c.in-Tuple-Tuple.w in
-    let one : tree_of c.args.one.now ≡ tuple (trees_of v.items) = search (rules, the_lemmas) in
-    let other : tree_of c.args.other.now ≡ tuple (trees_of w.items) = search (rules, the_lemmas) in
+    let v = arc_value c.in-Tuple-Tuple.v in
+    let w = arc_value c.in-Tuple-Tuple.w in
+    let one : tree_of c.args.one.now ≡ tuple (trees_of v.items) = ap tree_of c.in-Tuple-Tuple.is-0 ∙ tree_of_tuple c.in-Tuple-Tuple.v in
+    let other : tree_of c.args.other.now ≡ tuple (trees_of w.items) = ap tree_of c.in-Tuple-Tuple.is-1 ∙ tree_of_tuple c.in-Tuple-Tuple.w in
     let both = ap₂ tree_cmp one other ∙ tuple_order tree_of tree_of v.items w.items in
-    let sizes : nat_cmp (length v.items) (length w.items) ≡ Equal =
-    ap₂ nat_cmp (sym (c.len.ensures ∙ v.ok.0)) (sym (c.len-in-Tuple-Tuple.ensures ∙ w.ok.0)) ∙ sym c.cmp-in-Tuple-Tuple.ensures ∙ c.in-Equal.is in
-    c.order_all.ensures ∙ sym (ap (λ r. ordering_then r (trees_cmp (trees_of v.items) (trees_of w.items))) sizes) ∙ sym both
+    let long : c.len.result ≡ length v.items = c.len.ensures ∙ ap vec_len c.deref.ensures ∙ v.ok.0 in
+    let wide : c.len-in-Tuple-Tuple.result ≡ length w.items = c.len-in-Tuple-Tuple.ensures ∙ ap vec_len c.deref-in-Tuple-Tuple.ensures ∙ w.ok.0 in
+    let sizes : nat_cmp (length v.items) (length w.items) ≡ Equal = ap₂ nat_cmp (sym long) (sym wide) ∙ sym c.cmp-in-Tuple-Tuple.ensures ∙ c.in-Equal.is in
+    c.order_all.ensures ∙ ap₂ (λ x y. trees_cmp (trees_of x.items) (trees_of y.items)) c.deref-in-Equal.ensures c.deref-in-Equal-2.ensures
+    ∙ sym (ap (λ r. ordering_then r (trees_cmp (trees_of v.items) (trees_of w.items))) sizes) ∙ sym both
 
 pub order_terms-returns-in_default-cmp : goal.order_terms-returns-in_default-cmp
 order_terms-returns-in_default-cmp g t c =
-    let v = c.in-Tuple-Tuple.v in
-    let w = c.in-Tuple-Tuple.w in
-    let one : tree_of c.args.one.now ≡ tuple (trees_of v.items) = search (rules, the_lemmas) in
-    let other : tree_of c.args.other.now ≡ tuple (trees_of w.items) = search (rules, the_lemmas) in
+    let v = arc_value c.in-Tuple-Tuple.v in
+    let w = arc_value c.in-Tuple-Tuple.w in
+    let one : tree_of c.args.one.now ≡ tuple (trees_of v.items) = ap tree_of c.in-Tuple-Tuple.is-0 ∙ tree_of_tuple c.in-Tuple-Tuple.v in
+    let other : tree_of c.args.other.now ≡ tuple (trees_of w.items) = ap tree_of c.in-Tuple-Tuple.is-1 ∙ tree_of_tuple c.in-Tuple-Tuple.w in
     let both = ap₂ tree_cmp one other ∙ tuple_order tree_of tree_of v.items w.items in
-    let sizes : c.cmp-in-Tuple-Tuple.result ≡ nat_cmp (length v.items) (length w.items) =
-    c.cmp-in-Tuple-Tuple.ensures ∙ ap₂ nat_cmp (c.len.ensures ∙ v.ok.0) (c.len-in-Tuple-Tuple.ensures ∙ w.ok.0) in
+    let long : c.len.result ≡ length v.items = c.len.ensures ∙ ap vec_len c.deref.ensures ∙ v.ok.0 in
+    let wide : c.len-in-Tuple-Tuple.result ≡ length w.items = c.len-in-Tuple-Tuple.ensures ∙ ap vec_len c.deref-in-Tuple-Tuple.ensures ∙ w.ok.0 in
+    let sizes : c.cmp-in-Tuple-Tuple.result ≡ nat_cmp (length v.items) (length w.items) = c.cmp-in-Tuple-Tuple.ensures ∙ ap₂ nat_cmp long wide in
     then_unequal _ _ c.in_default-cmp.not-Equal ∙ ap (λ r. ordering_then r (trees_cmp (trees_of v.items) (trees_of w.items))) sizes ∙ sym both
 
 pub order_terms-returns-in-Int-Int : goal.order_terms-returns-in-Int-Int

@@ -16,4 +16,4 @@ loop-code-preserved g c =
     code_more codes i c.loop-code.items.items c.push.new.self.items _ c.loop-code-test.true c.in_ok-push.ensures.items (tree_of_int _ _ ∙ ap int value) c.loop-code.invariant
 
 pub returns : goal.returns
-returns g c = codes_done c.args.codes.now c.loop-code.items c.loop-code.code-index (omega arith) c.loop-code.invariant
+returns g c = c.in_ok-list.ensures ∙ codes_done c.args.codes.now c.loop-code.items c.loop-code.code-index (omega arith) c.loop-code.invariant

@@ -3,15 +3,15 @@ use Rattle.tn_text.specs.Stack.{StepsReading}
 use Rattle.tn_text.proofs.Frames.{closes_tuple, closes_list, brace_on_list, square_on_tuple}
 use Rattle.tn_text.proofs.stack.close.Goals as goal
 
-pub returns-in-Brace-Brace : goal.returns-in-Brace-Brace
-returns-in-Brace-Brace g c =
+pub returns-in-Ok : goal.returns-in-Ok
+returns-in-Ok g c =
     let taken : c.args.frames.items ≡ c.pop.new.self.items ++ c.in-Some.top ∷ [] = search rules in
-    subst (StepsReading c.put_term.result) (closes_tuple c.args.bracket c.args.frames.items c.pop.new.self.items c.in-Some.top taken c.in-Brace-Brace.is-0 c.in-Brace-Brace.is-1) c.put_term.ensures
+    subst (StepsReading c.put_term.result) (closes_tuple c.args.bracket c.args.frames.items c.pop.new.self.items c.in-Some.top _ taken c.in-Brace-Brace.is-0 c.in-Brace-Brace.is-1 c.in-Ok.ensures) c.put_term.ensures
 
-pub returns-in-Square-Square : goal.returns-in-Square-Square
-returns-in-Square-Square g c =
+pub returns-in-Ok-list : goal.returns-in-Ok-list
+returns-in-Ok-list g c =
     let taken : c.args.frames.items ≡ c.pop.new.self.items ++ c.in-Some.top ∷ [] = search rules in
-    subst (StepsReading c.put_term-in-Square-Square.result) (closes_list c.args.bracket c.args.frames.items c.pop.new.self.items c.in-Some.top taken c.in-Square-Square.is-0 c.in-Square-Square.is-1) c.put_term-in-Square-Square.ensures
+    subst (StepsReading c.put_term-in-Ok-list.result) (closes_list c.args.bracket c.args.frames.items c.pop.new.self.items c.in-Some.top _ taken c.in-Square-Square.is-0 c.in-Square-Square.is-1 c.in-Ok-list.ensures) c.put_term-in-Ok-list.ensures
 
 pub returns-in-Brace-Square : goal.returns-in-Brace-Square
 returns-in-Brace-Square g c =

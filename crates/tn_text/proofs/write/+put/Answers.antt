@@ -1,4 +1,5 @@
-use Rattle.std.proofs.Common.{◌≡◌, ◌<◌, ◌≤◌, length, get_or, ap, ◌∙◌, subst, rules}
+use Rattle.std.proofs.Common.{◌≡◌, ◌<◌, ◌≤◌, length, get_or, ap, sym, ◌∙◌, subst, rules}
+use Rattle.def_term.specs.Tree.{tuple, list}
 use Rattle.def_term.specs.Text.{w}
 use Rattle.tn_term.specs.Views.{tree_of, trees_of}
 use Rattle.tn_term.proofs.Views.{tree_of_tuple, tree_of_list}
@@ -7,11 +8,11 @@ use Rattle.tn_text.proofs.write.+put.Goals as goal
 
 pub put-returns-in-Tuple-clause-ok : goal.put-returns-in-Tuple-clause-ok
 put-returns-in-Tuple-clause-ok g t c =
-    written_as c.put_enclosed.result c.args.out.now.items c.put_enclosed.new.out.items (ap (λ x. w (tree_of x)) c.in-Tuple.is ∙ ap w (tree_of_tuple c.in-Tuple.v)) c.put_enclosed.ensures.ok
+    written_as c.put_enclosed.result c.args.out.now.items c.put_enclosed.new.out.items (ap (λ x. w (tree_of x)) c.in-Tuple.is ∙ ap w (tree_of_tuple c.in-Tuple.v) ∙ ap (λ v. w (tuple (trees_of v.items))) (sym c.deref.ensures)) c.put_enclosed.ensures.ok
 
 pub put-returns-in-List-clause-ok : goal.put-returns-in-List-clause-ok
 put-returns-in-List-clause-ok g t c =
-    written_as c.put_enclosed-in-List.result c.args.out.now.items c.put_enclosed-in-List.new.out.items (ap (λ x. w (tree_of x)) c.in-List.is ∙ ap w (tree_of_list c.in-List.v)) c.put_enclosed-in-List.ensures.ok
+    written_as c.put_enclosed-in-List.result c.args.out.now.items c.put_enclosed-in-List.new.out.items (ap (λ x. w (tree_of x)) c.in-List.is ∙ ap w (tree_of_list c.in-List.v) ∙ ap (λ v. w (list (trees_of v.items))) (sym c.deref-in-List.ensures)) c.put_enclosed-in-List.ensures.ok
 
 pub put-returns-in-Int-clause-grows : goal.put-returns-in-Int-clause-grows
 put-returns-in-Int-clause-grows g t c = c.write_decimal.ensures.grows

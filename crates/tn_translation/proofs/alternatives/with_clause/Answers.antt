@@ -32,7 +32,7 @@ returns-in_err-spec g c =
     let h = c.in_ok-head in
     let p = err_from_is_err_and c.from_residual-in_err-spec.result c.from_residual-in_err-spec.ensures.1 in
     rw (p.1, p.2) (named_too_long text (dialect_of c.args.dialect) k c.args.clause.now.guards.items (clauses_so_far c.args.spec) h.head.term h.ensures.0 (clause_names_seen h.head.names) h.ensures.1 (term_row_seen c.in_ok-conditions.conditions) c.in_ok-conditions.ensures
-    c.args.clause.now.at refl c.in_ok-part_terms.field-0 c.in_ok-part_terms.ensures _ (c.in_err-spec.ensures text))
+    c.args.clause.now.at refl c.in_ok-body.body c.in_ok-part_terms.field-0 c.in_ok-body.ensures c.in_ok-part_terms.ensures _ (c.in_err-spec.ensures text))
 
 pub returns : goal.returns
 returns g c =
@@ -43,7 +43,7 @@ returns g c =
     let names = clause_names_seen h.head.names in
     let cs = term_row_seen c.in_ok-conditions.conditions in
     subst (GivesFun clauses_so_far text c.with_other_guards.result)
-    (sym (named_goes_on text d k c.args.clause.now.guards.items (clauses_so_far c.args.spec) h.head.term h.ensures.0 names h.ensures.1 cs c.in_ok-conditions.ensures c.args.clause.now.at refl c.in_ok-part_terms.field-0 c.in_ok-part_terms.ensures _ (c.in_ok-spec.ensures text)))
+    (sym (named_goes_on text d k c.args.clause.now.guards.items (clauses_so_far c.args.spec) h.head.term h.ensures.0 names h.ensures.1 cs c.in_ok-conditions.ensures c.args.clause.now.at refl c.in_ok-body.body c.in_ok-part_terms.field-0 c.in_ok-body.ensures c.in_ok-part_terms.ensures _ (c.in_ok-spec.ensures text)))
     (c.with_other_guards.ensures k
-    (named_parts text d k c.args.clause.now.guards.items (clauses_so_far c.args.spec) h.head.term h.ensures.0 names h.ensures.1 cs c.in_ok-conditions.ensures c.args.clause.now.at refl c.in_ok-part_terms.field-0 c.in_ok-part_terms.ensures)
+    (named_parts text d k c.args.clause.now.guards.items (clauses_so_far c.args.spec) h.head.term h.ensures.0 names h.ensures.1 cs c.in_ok-conditions.ensures c.args.clause.now.at refl c.in_ok-body.body c.in_ok-part_terms.field-0 c.in_ok-body.ensures c.in_ok-part_terms.ensures)
     (refl, h.ensures.1))

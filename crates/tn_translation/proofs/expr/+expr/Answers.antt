@@ -51,10 +51,10 @@ prefix_translated-returns-in-Some g t c =
     let same : translated_seen c.integer_value.result ≡ computed_value (int c.in-Some.n) = first_of (search rules, grind (arith, common_steps)) in
     c.in-Some.ensures c.args.scope.now (text_of c.args.scope.now) c.args.at ∙ ap Ok (sym same)
 
-pub expr_translated-returns-in_ok-exprs_translated-in-List : goal.expr_translated-returns-in_ok-exprs_translated-in-List
-expr_translated-returns-in_ok-exprs_translated-in-List g t c =
+pub expr_translated-returns-in_ok-list_translated-in-List : goal.expr_translated-returns-in_ok-list_translated-in-List
+expr_translated-returns-in_ok-list_translated-in-List g t c =
     let el = c.in_ok-exprs_translated-in-List.ensures in
-    list_arm c.args.scope.now c.args.expr.now c.in-List.field-0 c.in-List.items el.0 _ c.in-List.is el.1 (c.list_translated.ensures el.0 el.2)
+    list_arm c.args.scope.now c.args.expr.now c.in-List.field-0 c.in-List.items el.0 _ c.in-List.is el.1 (c.in_ok-list_translated-in-List.ensures el.0 el.2)
 
 pub expr_translated-returns-in_ok-tuple_translated-in-Tuple : goal.expr_translated-returns-in_ok-tuple_translated-in-Tuple
 expr_translated-returns-in_ok-tuple_translated-in-Tuple g t c =

@@ -50,17 +50,17 @@ pattern_term-returns-in-Atom-clause-term g t c =
     let is = ap (fun_expr_seen text) c.in-Atom.is ∙ seen_atom _ text c.in-Atom.token in
     same_pattern text c.args.pattern.now _ is (clause_names_seen c.args.names.now) c.atom_pattern.result (λ ns e. c.atom_pattern.ensures ns)
 
-pub pattern_term-returns-in_ok-pattern_terms-in-List-clause-term : goal.pattern_term-returns-in_ok-pattern_terms-in-List-clause-term
-pattern_term-returns-in_ok-pattern_terms-in-List-clause-term g t c = λ ns e.
+pub pattern_term-returns-in_ok-list-in-List-clause-term : goal.pattern_term-returns-in_ok-list-in-List-clause-term
+pattern_term-returns-in_ok-list-in-List-clause-term g t c = λ ns e.
     let text = c.args.bytes.now in
     let is = ap (fun_expr_seen text) c.in-List.is ∙ seen_list text c.in-List.field-0 c.in-List.items in
-    list_pattern text ns c.args.pattern.now c.in-List.field-0 c.in-List.items c.in_ok-pattern_terms-in-List.field-0 c.in-List.is (c.in_ok-pattern_terms-in-List.ensures.terms ns (these_extend text (clause_names_seen c.args.names.now) ns c.args.pattern.now _ is e))
+    list_pattern text ns c.args.pattern.now c.in-List.field-0 c.in-List.items c.in_ok-pattern_terms-in-List.field-0 _ c.in-List.is (c.in_ok-pattern_terms-in-List.ensures.terms ns (these_extend text (clause_names_seen c.args.names.now) ns c.args.pattern.now _ is e)) c.in_ok-list-in-List.ensures
 
-pub pattern_term-returns-in_ok-pattern_terms-in-Tuple-clause-term : goal.pattern_term-returns-in_ok-pattern_terms-in-Tuple-clause-term
-pattern_term-returns-in_ok-pattern_terms-in-Tuple-clause-term g t c = λ ns e.
+pub pattern_term-returns-in_ok-tuple-in-Tuple-clause-term : goal.pattern_term-returns-in_ok-tuple-in-Tuple-clause-term
+pattern_term-returns-in_ok-tuple-in-Tuple-clause-term g t c = λ ns e.
     let text = c.args.bytes.now in
     let is = ap (fun_expr_seen text) c.in-Tuple.is ∙ seen_tuple text c.in-Tuple.field-0 c.in-Tuple.items in
-    tuple_pattern text ns c.args.pattern.now c.in-Tuple.field-0 c.in-Tuple.items c.in_ok-pattern_terms-in-Tuple.field-0 c.in-Tuple.is (c.in_ok-pattern_terms-in-Tuple.ensures.terms ns (these_extend text (clause_names_seen c.args.names.now) ns c.args.pattern.now _ is e))
+    tuple_pattern text ns c.args.pattern.now c.in-Tuple.field-0 c.in-Tuple.items c.in_ok-pattern_terms-in-Tuple.field-0 _ c.in-Tuple.is (c.in_ok-pattern_terms-in-Tuple.ensures.terms ns (these_extend text (clause_names_seen c.args.names.now) ns c.args.pattern.now _ is e)) c.in_ok-tuple-in-Tuple.ensures
 
 pub pattern_term-returns-in-Before-clause-term : goal.pattern_term-returns-in-Before-clause-term
 pattern_term-returns-in-Before-clause-term g t c =

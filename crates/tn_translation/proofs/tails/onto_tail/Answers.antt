@@ -8,4 +8,4 @@ pub returns-then-len-gt-MAX_LIST : goal.returns-then-len-gt-MAX_LIST
 returns-then-len-gt-MAX_LIST g c = λ text. long_list c.args.at (term_row_seen c.args.terms) (tree_of c.args.tail) c.in_ok-items.items c.in_ok-items.ensures (omega (arith, c.if-len-gt-MAX_LIST.true))
 
 pub returns : goal.returns
-returns g c = λ text. short_list c.args.at (term_row_seen c.args.terms) (tree_of c.args.tail) c.in_ok-items.items c.in_ok-items.ensures (omega (arith, c.if-len-gt-MAX_LIST.false))
+returns g c = λ text. short_list c.args.at (term_row_seen c.args.terms) (tree_of c.args.tail) c.in_ok-items.items _ c.in_ok-items.ensures (omega (arith, c.if-len-gt-MAX_LIST.false)) c.in_ok-list.ensures

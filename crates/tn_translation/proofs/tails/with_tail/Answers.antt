@@ -5,5 +5,5 @@ use Rattle.tn_translation.proofs.tails.with_tail.Goals as goal
 
 pub returns : goal.returns
 returns g c =
-    let grown : c.append.new.self.items ≡ c.args.terms.items ++ c.elements_of-more.result.items = search rules in
-    row_joined c.args.terms c.elements_of-more.result c.append.new.self grown ∙ ap (λ l. term_row_seen c.args.terms ++ l) c.elements_of-more.ensures
+    let grown : c.append.new.self.items ≡ c.args.terms.items ++ c.in_ok-more.more.items = search rules in
+    row_joined c.args.terms c.in_ok-more.more c.append.new.self grown ∙ ap (λ l. term_row_seen c.args.terms ++ l) c.in_ok-more.ensures

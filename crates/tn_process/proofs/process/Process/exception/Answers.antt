@@ -13,4 +13,4 @@ returns-then-not-is_caught g c =
     let none : c.is_caught.result ≡ false = search rules in
     let t = shared_tree {A = g.row.A.Denot} c.args.value in
     uncaught (process_seen c.args.self.now).frames (class_of c.args.class) t (shared_tree {A = g.row.A.Denot} c.in_ok-value.value) (ap class_of throw) (sym c.is_caught.ensures ∙ none)
-    (c.in_ok-value.ensures ∙ c.in_ok-tagged.ensures ∙ ap₂ (λ w u. tuple (of_elements (w ∷ u ∷ []))) c.in_ok-word.ensures (c.in_ok-copy.ensures ∙ c.term.ensures))
+    (c.in_ok-value.ensures ∙ c.in_ok-tagged.ensures ∙ ap₂ (λ w u. tuple (of_elements (w ∷ u ∷ []))) c.in_ok-word.ensures (c.in_ok-held.ensures ∙ c.term.ensures))
