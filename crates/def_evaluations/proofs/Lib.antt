@@ -1,0 +1,5 @@
+mod TriedClauses
+mod Effects
+mod Sums
+pub mod Runs
+mod CountRows

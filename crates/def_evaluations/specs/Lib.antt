@@ -1,0 +1,4 @@
+pub mod Evaluations
+pub mod Counts
+pub mod Texts
+pub mod Laws

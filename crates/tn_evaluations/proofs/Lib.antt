@@ -1,0 +1,4 @@
+pub mod OneSession
+pub mod SideBySide
+pub mod Moves
+pub mod Picks
